@@ -1,0 +1,67 @@
+-- The twelve named cases of document 01, by one statement over a list of them: antt computes what the rules say of each and compares.
+-- Assumes nothing.
+use Prim.Native.Nat.{ℕ, _-_, _^_}
+use mathlib.Core.Bool.{Bool, true, false, _&&_}
+use mathlib.Core.List.{List, [], _∷_}
+use lib.ListN.{length, replicate}
+use lib.Dec.{T, eqb}
+use Rattle.rules.specs.Sums.{pick, any, total, top, list}
+use Rattle.rules.specs.Grid.{cells, coords, whole, inside, edge, side, before, after, weight, line}
+use Rattle.rules.specs.Refusals.{readCoded, readCell2, readCell3, refuseEncode, refuseDecode, refuseHalving, codedBy, cell2By, cell3By, sliceBy}
+use Rattle.rules.specs.Curve.{encode, decode, seekDigit, undo, digitTable, nextTable, plane, octantTable, space, indexOf, coordinateOf, encode2, encode3, decode2, decode3}
+use Rattle.rules.specs.Halving.{Halved, loOf, hiOf, reach, settle, cutOf, cutAt, uncut, nextAxis, unlessFlat, fill, splitsOf, turn, walk, idOf, idsOf, halving2, halve}
+
+-- a cell of 2D or 3D at an order, with its index; a grid's width, height, depth and weights, with its splits and ids
+pub data Case : Type 0 where
+  on2 : (order x y index : ℕ) → Case
+  on3 : (order x y z index : ℕ) → Case
+  grid : (width height depth : ℕ) (weights splits ids : List ℕ) → Case
+
+abbrev pub same : List ℕ → List ℕ → Bool
+same [] [] = true
+same [] (y ∷ ys) = false
+same (x ∷ xs) [] = false
+same (x ∷ xs) (y ∷ ys) = eqb x y && same xs ys
+
+-- the call's number is 0, and the values are these
+abbrev pub answers : ℕ → List ℕ → List ℕ → Bool
+answers number values wanted = eqb number 0 && same values wanted
+
+abbrev pub halves : Halved → List ℕ → List ℕ → Bool
+halves r splits ids = answers (r .number) (r .splits) splits && same (r .ids) ids
+
+-- the cell has the index, and the index the cell; slices of the right lengths are filled with the splits and the ids
+abbrev pub holds : Case → Bool
+holds (on2 order x y i) =
+    answers (readCoded (encode2 x y order) .number) (readCoded (encode2 x y order) .value ∷ []) (i ∷ [])
+    && answers (readCell2 (decode2 i order) .number) (readCell2 (decode2 i order) .value) (x ∷ y ∷ [])
+holds (on3 order x y z i) =
+    answers (readCoded (encode3 x y z order) .number) (readCoded (encode3 x y z order) .value ∷ []) (i ∷ [])
+    && answers (readCell3 (decode3 i order) .number) (readCell3 (decode3 i order) .value) (x ∷ y ∷ z ∷ [])
+holds (grid w h k ws splits ids) =
+    halves (halve (halving2 (record { width = w; height = h; depth = k })) ws (replicate (2 ^ k - 1) 0) (replicate (length ws) 0)) splits ids
+
+abbrev pub all : List Case → Bool
+all [] = true
+all (c ∷ cs) = holds c && all cs
+
+-- A1 to A7, B1 and B2, G1 to G3
+abbrev pub named : List Case
+named =
+    on2 0 0 0 0
+    ∷ on2 1 1 0 3
+    ∷ on2 2 1 0 1
+    ∷ on2 2 3 3 10
+    ∷ on2 7 0 127 5461
+    ∷ on2 7 127 127 10922
+    ∷ on2 30 (2 ^ 30 - 1) 0 1152921504606846975
+    ∷ on3 1 1 1 1 5
+    ∷ on3 2 3 0 0 63
+    ∷ grid 4 4 2 (replicate 16 1) (2 ∷ 2 ∷ 2 ∷ []) (0 ∷ 0 ∷ 1 ∷ 1 ∷ 0 ∷ 0 ∷ 1 ∷ 1 ∷ 2 ∷ 2 ∷ 3 ∷ 3 ∷ 2 ∷ 2 ∷ 3 ∷ 3 ∷ [])
+    ∷ grid 4 1 3 (10 ∷ 20 ∷ 30 ∷ 40 ∷ []) (0 ∷ 0 ∷ 2 ∷ uncut ∷ uncut ∷ 0 ∷ 0 ∷ []) (5 ∷ 5 ∷ 7 ∷ 7 ∷ [])
+    ∷ grid 2 2 2 (replicate 4 1) (1 ∷ 0 ∷ 0 ∷ []) (1 ∷ 1 ∷ 3 ∷ 3 ∷ [])
+    ∷ []
+
+pub named-cases : T (all named)
+unfolding pick any total top list cells coords whole inside edge side before after weight line refuseEncode refuseDecode refuseHalving codedBy cell2By cell3By sliceBy encode decode seekDigit undo digitTable nextTable plane octantTable space indexOf coordinateOf encode2 encode3 decode2 decode3 loOf hiOf reach settle cutOf cutAt nextAxis unlessFlat fill splitsOf turn walk idOf idsOf halve
+named-cases = tt

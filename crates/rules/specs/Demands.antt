@@ -1,0 +1,63 @@
+-- The demands, as statements. Assumes nothing.
+use Prim.Native.Nat.{ℕ, _+_, _*_, _^_, _≤_, _<_}
+use mathlib.Core.Path.{_≡_}
+use mathlib.Core.List.{List}
+use lib.ListN.{getD}
+use lib.Dec.{eqb}
+use Rattle.rules.specs.Sums.{total, sumWhere}
+use Rattle.rules.specs.Grid.{cells, allWeight, heaviestLine}
+use Rattle.rules.specs.Curve.{encode2, encode3, decode2, decode3}
+use Rattle.rules.specs.Halving.{Halving, halving2, halving3, refusalOf, halve}
+use Rattle.rules.specs.declared.Coded.the-variants.{Index}
+use Rattle.rules.specs.declared.Cell2.the-variants as flat
+use Rattle.rules.specs.declared.Cell3.the-variants as solid
+use Rattle.rules.specs.declared.Halving2.{Halving2}
+use Rattle.rules.specs.declared.Halving3.{Halving3}
+
+-- DEMAND 2: decode after encode gives the cell, encode after decode the index
+
+abbrev pub DecodeEncode2 : Type 0
+DecodeEncode2 =
+    (x y order : ℕ) → order ≤ 30 → x < 2 ^ order → y < 2 ^ order
+    → (i : ℕ) × (encode2 x y order ≡ Index i) × (decode2 i order ≡ flat.At x y)
+
+abbrev pub EncodeDecode2 : Type 0
+EncodeDecode2 =
+    (i order : ℕ) → order ≤ 30 → i < 4 ^ order
+    → (x : ℕ) × (y : ℕ) × (decode2 i order ≡ flat.At x y) × (encode2 x y order ≡ Index i)
+
+abbrev pub DecodeEncode3 : Type 0
+DecodeEncode3 =
+    (x y z order : ℕ) → order ≤ 21 → x < 2 ^ order → y < 2 ^ order → z < 2 ^ order
+    → (i : ℕ) × (encode3 x y z order ≡ Index i) × (decode3 i order ≡ solid.At x y z)
+
+abbrev pub EncodeDecode3 : Type 0
+EncodeDecode3 =
+    (i order : ℕ) → order ≤ 21 → i < 8 ^ order
+    → (x : ℕ) × (y : ℕ) × (z : ℕ) × (decode3 i order ≡ solid.At x y z) × (encode3 x y z order ≡ Index i)
+
+-- DEMAND 3
+
+-- the weight of the cells that have the id i
+unfoldable pub partWeight : List ℕ → List ℕ → List ℕ → ℕ → ℕ
+partWeight sides ws ids i = sumWhere (λ c. eqb (getD ids c 0) i) (λ c. getD ws c 0) (cells sides)
+
+-- of k levels, the weight w of an id, the weight T of all cells and the heaviest line M
+pub record Balanced (k w T M : ℕ) : Type 0 where
+  pub upper : 99 * 200 ^ k * w ≤ 99 * 101 ^ k * T + 200 ^ (k + 1) * M
+  pub lower : 101 * 99 ^ k * T ≤ 101 * 200 ^ k * w + 200 ^ (k + 1) * M
+
+-- of the ids of k levels: each id is balanced, and the weights of all ids add up to T
+pub record Demand3 (sides ws : List ℕ) (k : ℕ) (ids : List ℕ) : Type 0 where
+  pub balanced : (i : ℕ) → i < 2 ^ k → Balanced k (partWeight sides ws ids i) (allWeight sides ws) (heaviestLine sides ws)
+  pub adds-up : total (partWeight sides ws ids) (2 ^ k) ≡ allWeight sides ws
+
+-- of every accepted call
+abbrev pub Demand3Of : Halving → Type 0
+Demand3Of h = (ws splits ids : List ℕ) → refusalOf h ws splits ids ≡ 0 → Demand3 (h .sides) ws (h .depth) (halve h ws splits ids .ids)
+
+abbrev pub Demand3In2D : Type 0
+Demand3In2D = (h : Halving2) → Demand3Of (halving2 h)
+
+abbrev pub Demand3In3D : Type 0
+Demand3In3D = (h : Halving3) → Demand3Of (halving3 h)

@@ -1,0 +1,144 @@
+// Document 01 as definitions: the answers, the records, the limits and the numbers of refusal stand here,
+// and what each of them means stands in specs/, a file for a chapter:
+//
+//   Refusals  the test of each number, the order of tests of each call, the number and values of each answer
+//   Curve     the level machine, its 2D and 3D tables, deposit, encode, decode
+//   Axis      making an axis, the cell of a value, low and high of points
+//   Knots     the indices of all points
+//   Grid      cells, blocks, lines and their weights
+//   Halving   lo and hi, the cut, the tree of splits, the ids
+//   Demands   what is to be shown of all this
+//
+// There is no function here, and no proof but that of the twelve named cases (proofs/NamedCases.antt).
+
+// The order of a call that names none.
+pub const DEFAULT_ORDER: u32 = 12;
+
+// The highest order in 2D, and of an axis.
+pub const TOP_ORDER_2D: u32 = 30;
+
+// The highest order in 3D.
+pub const TOP_ORDER_3D: u32 = 21;
+
+// The largest size of a coordinate.
+pub const TOP_VALUE: f64 = 1048576.0;
+
+// The least width of an axis that is not flat.
+pub const LEAST_WIDTH: f64 = 0.00000095367431640625;
+
+// The longest side of a grid.
+pub const TOP_SIDE: u32 = 1024;
+
+// The most cells of a grid.
+pub const TOP_CELLS: u32 = 65536;
+
+// The most levels of a halving.
+pub const TOP_DEPTH: u32 = 12;
+
+// The heaviest weight of a cell.
+pub const TOP_WEIGHT: u64 = 16777215;
+
+// The split of a node that is not cut.
+pub const UNCUT: u32 = 4294967295;
+
+// The numbers of refusal. 0: answered.
+pub const ANSWERED: u32 = 0;
+
+// The order is over the highest.
+pub const REFUSED_ORDER: u32 = 1;
+
+// A cell coordinate is 2^order or more.
+pub const REFUSED_COORDINATE: u32 = 2;
+
+// A decoder's index is 4^order, or 8^order in 3D, or more.
+pub const REFUSED_INDEX: u32 = 3;
+
+// There are no points.
+pub const REFUSED_NO_POINTS: u32 = 4;
+
+// Slice lengths don't fit.
+pub const REFUSED_LENGTHS: u32 = 5;
+
+// A coordinate is NaN, infinite, or too large in size.
+pub const REFUSED_VALUE: u32 = 6;
+
+// An axis is thin.
+pub const REFUSED_THIN: u32 = 7;
+
+// Low above high, a value outside low to high, or a made-up axis record.
+pub const REFUSED_OUTSIDE: u32 = 8;
+
+// A side is 0 or too long, or there are too many cells.
+pub const REFUSED_SIDES: u32 = 9;
+
+// The depth is too large.
+pub const REFUSED_DEPTH: u32 = 10;
+
+// A weight is too heavy.
+pub const REFUSED_WEIGHT: u32 = 11;
+
+// An encoder's answer.
+pub enum Coded {
+    Index(u64),
+    Refused(u32),
+}
+
+// The answer of a decoder in 2D: x, y.
+pub enum Cell2 {
+    At(u64, u64),
+    Refused(u32),
+}
+
+// The answer of a decoder in 3D: x, y, z.
+pub enum Cell3 {
+    At(u64, u64, u64),
+    Refused(u32),
+}
+
+// An axis record: flat, or sloped with its factor.
+pub enum Axis {
+    Flat {
+        low: f64,
+        high: f64,
+        order: u32,
+    },
+    Sloped {
+        low: f64,
+        high: f64,
+        order: u32,
+        factor: f64,
+    },
+}
+
+// The answer of making an axis.
+pub enum AxisAnswer {
+    Made(Axis),
+    Refused(u32),
+}
+
+// The answer of mapping a value on an axis.
+pub enum CellAnswer {
+    Cell(u64),
+    Refused(u32),
+}
+
+// Low and high of points on an axis.
+pub struct Extent {
+    pub low: f64,
+    pub high: f64,
+}
+
+// What describes a halving in 2D.
+pub struct Halving2 {
+    pub width: u32,
+    pub height: u32,
+    pub depth: u32,
+}
+
+// What describes a halving in 3D.
+pub struct Halving3 {
+    pub width: u32,
+    pub height: u32,
+    pub layers: u32,
+    pub depth: u32,
+}
