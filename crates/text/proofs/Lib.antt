@@ -1,0 +1,5 @@
+pub mod Laws
+pub mod Small
+pub mod Runs
+pub mod GoesOn
+pub mod Once

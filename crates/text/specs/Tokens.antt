@@ -1,0 +1,39 @@
+-- Words and lines' ends of a text. Assumes nothing.
+use Prim.Native.Nat.{ℕ, zero, suc, _+_, _-_}
+use mathlib.Core.Bool.{Bool, not, _||_}
+use mathlib.Core.List.{List}
+use lib.ListN.{getD, length}
+use lib.Dec.{leb}
+use Rattle.text.specs.Bytes.{pick, isGap, isLineEnd, isHash}
+use Rattle.text.specs.declared.token.Run.{Run}
+use Rattle.text.specs.declared.token.Run.the-variants as run
+use Rattle.text.specs.declared.token.Token.{Token}
+use Rattle.text.specs.declared.token.Token.the-variants.{Word, LineEnd, End}
+
+-- the first place from at on, among n, whose byte passes the test; at + n where none does
+unfoldable pub firstFrom : (ℕ → Bool) → List ℕ → ℕ → ℕ → ℕ
+firstFrom p t at zero = at
+firstFrom p t at (suc n) = pick (p (getD t at 0)) at (firstFrom p t (suc at) n)
+
+-- whether a run ends before a byte
+unfoldable pub stopsOf : Run → ℕ → Bool
+stopsOf run.Gaps b = not (isGap b)
+stopsOf run.Comment b = isLineEnd b
+stopsOf run.Word b = isGap b || (isLineEnd b || isHash b)
+
+unfoldable pub runEnd : Run → List ℕ → ℕ → ℕ
+runEnd r t at = firstFrom (stopsOf r) t at (length t - at)
+
+-- the line's end at j, or the text's end
+abbrev pub lineAt : List ℕ → ℕ → Token
+lineAt t j = pick (leb (length t) j) End (LineEnd (j + 1))
+
+-- at i, the first place that is no gap
+abbrev pub tokenOn : List ℕ → ℕ → Token
+tokenOn t i =
+    pick (leb (length t) i) End
+    (pick (isLineEnd (getD t i 0)) (LineEnd (i + 1))
+    (pick (isHash (getD t i 0)) (lineAt t (runEnd run.Comment t i)) (Word i (runEnd run.Word t i))))
+
+unfoldable pub tokenAt : List ℕ → ℕ → Token
+tokenAt t at = tokenOn t (runEnd run.Gaps t at)
