@@ -1,0 +1,85 @@
+/* Skarvolm: Hilbert indices of cells and points, and halving of grids by recursive coordinate bisection, proved.
+ *
+ * Each call tests its own input and returns a number: 0 where it answers, else the number of refusal below. After a refusal
+ * every result behind a pointer is 0 and every slice (a pointer and a length) is untouched. Every call ends, none allocates.
+ *
+ *   0  answered
+ *   1  order over 30 (2D, or one axis) or over 21 (3D)
+ *   2  a cell coordinate is 2^order or more
+ *   3  a decoder's index is 4^order (2D) or 8^order (3D) or more
+ *   4  no points: the x slice is empty
+ *   5  slice lengths don't fit
+ *   6  a coordinate is NaN, infinite, or over 1,048,576 in size
+ *   7  an axis is thin: its rounded width is above 0 and below 2^-20
+ *   8  low above high, or a value outside low to high
+ *   9  a side is 0 or over 1,024, or there are over 65,536 cells
+ *  10  depth over 12
+ *  11  a weight over 16,777,215
+ *
+ * A pointer is not null and points to live memory, a slice to as many elements as its length says (to any aligned address
+ * where that is 0), and what is written overlaps nothing else that is passed.
+ *
+ * An example, which tests/header compiles and runs:
+ *
+ *     #include "skarvolm.h"
+ *     #include <stdio.h>
+ *
+ *     int main(void) {
+ *         uint64_t index, weights[16];
+ *         uint32_t splits[3], ids[16];
+ *         if (skarvolm_encode_2d(127, 127, 7, &index) == 0)
+ *             printf("cell (127, 127) at order 7 has index %llu\n", (unsigned long long)index);
+ *         for (int i = 0; i < 16; i++)
+ *             weights[i] = 1;
+ *         if (skarvolm_rcb_2d(4, 4, 2, weights, 16, splits, 3, ids, 16) == 0)
+ *             printf("cell (3, 0) lies in part %u\n", ids[3]);
+ *         printf("order 31 is refused: %u\n", skarvolm_encode_2d(0, 0, 31, &index));
+ *         return 0;
+ *     }
+ */
+#ifndef SKARVOLM_H
+#define SKARVOLM_H
+
+#include <stddef.h>
+#include <stdint.h>
+
+#ifdef __cplusplus
+extern "C" {
+#endif
+
+/* The source's bits, lowest first, laid onto the mask's set bits, lowest first. Never refused. */
+uint64_t skarvolm_deposit(uint64_t source, uint64_t mask);
+
+/* The Hilbert index of a cell. Tests 1, 2. */
+uint32_t skarvolm_encode_2d(uint64_t x, uint64_t y, uint32_t order, uint64_t *index);
+uint32_t skarvolm_encode_3d(uint64_t x, uint64_t y, uint64_t z, uint32_t order, uint64_t *index);
+
+/* The cell of a Hilbert index. Tests 1, 3. */
+uint32_t skarvolm_decode_2d(uint64_t index, uint32_t order, uint64_t *x, uint64_t *y);
+uint32_t skarvolm_decode_3d(uint64_t index, uint32_t order, uint64_t *x, uint64_t *y, uint64_t *z);
+
+/* The cell of a value on the axis from low to high: makes the axis, then the cell. Tests 1, 6, 8, 7 of the axis, then 6, 8 of
+ * the value. */
+uint32_t skarvolm_cell(double low, double high, uint32_t order, double value, uint64_t *cell);
+
+/* The Hilbert index of each point, over the box along the axes from the lowest to the highest coordinate. One index a point.
+ * Tests 1, 4, 5, 6, 7, each over all points and axes before the next. */
+uint32_t skarvolm_index_2d(const double *xs, size_t xs_length, const double *ys, size_t ys_length, uint32_t order,
+                           uint64_t *indices, size_t indices_length);
+uint32_t skarvolm_index_3d(const double *xs, size_t xs_length, const double *ys, size_t ys_length, const double *zs,
+                           size_t zs_length, uint32_t order, uint64_t *indices, size_t indices_length);
+
+/* Halves a grid depth times: across y first, then x, y, x in 2D, or z, x, y in 3D. Cell (x, y) stands at x + width * y,
+ * (x, y, z) at x + width * (y + height * z). One weight and one id a cell; 2^depth - 1 splits, the root's first, those of the
+ * halves of node i (counted from 1) at nodes 2i and 2i + 1, in grid coordinates, 4,294,967,295 for a node not cut. Ids are
+ * below 2^depth. Tests 9, 10, 5, 11. */
+uint32_t skarvolm_rcb_2d(uint32_t width, uint32_t height, uint32_t depth, const uint64_t *weights, size_t weights_length,
+                         uint32_t *splits, size_t splits_length, uint32_t *ids, size_t ids_length);
+uint32_t skarvolm_rcb_3d(uint32_t width, uint32_t height, uint32_t layers, uint32_t depth, const uint64_t *weights,
+                         size_t weights_length, uint32_t *splits, size_t splits_length, uint32_t *ids, size_t ids_length);
+
+#ifdef __cplusplus
+}
+#endif
+
+#endif
