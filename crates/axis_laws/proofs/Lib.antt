@@ -1,0 +1,13 @@
+pub mod SubMono
+pub mod StepPattern
+pub mod MulMono
+pub mod ClosestNear
+pub mod OneStep
+pub mod AtMost
+pub mod Width
+pub mod Descent
+pub mod ProductBelow
+pub mod Passed
+pub mod AtMostOneStep
+pub mod MadeUp
+pub mod CellBelow
