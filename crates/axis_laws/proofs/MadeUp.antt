@@ -49,17 +49,23 @@ made-sloped low high order {l} {h} {o} {f} e = go (eq (width low high) nought) e
 
 -- THE BITS
 
-pub nonneg-no-nan : (x : Float) → T (nonneg x) → isNan x ≡ false
+nonneg-no-nan : (x : Float) → T (nonneg x) → isNan x ≡ false
 unfolding isNan
 nonneg-no-nan nan p = absurd p
 nonneg-no-nan (inf s) p = absurd p
 nonneg-no-nan (fin s m d) p = refl
 
-pub same-itself : (x : Float) → isNan x ≡ false → sameBits x x ≡ true
+pub made-no-nan : (low high : Float) (order : ℕ) {l h : Float} {o : ℕ} {f : Float} → makeAxis low high order ≡ made.Made (Sloped l h o f) → isNan f ≡ false
+made-no-nan low high order {l} {h} {o} {f} e =
+    let r = answered low high order (Sloped l h o f) e in
+    let k = made-sloped low high order (r .1) in
+    nonneg-no-nan f (subst (λ (x : Float). T (nonneg x)) (sym (k .2)) (factor-ends low high order (r .0) (k .1) .0))
+
+same-itself : (x : Float) → isNan x ≡ false → sameBits x x ≡ true
 unfolding sameBits
 same-itself x e = rw (e, eq-eqb (toBits binary64 x) (toBits binary64 x) refl)
 
-pub same-value : (x y : Float) → T (fits binary64 x) → T (fits binary64 y) → sameBits x y ≡ true → x ≡ y
+same-value : (x y : Float) → T (fits binary64 x) → T (fits binary64 y) → sameBits x y ≡ true → x ≡ y
 unfolding sameBits
 same-value x y p q e =
     let b : toBits binary64 x ≡ toBits binary64 y = eqb→eq _ _ (and-r (not (isNan x)) (eqb (toBits binary64 x) (toBits binary64 y)) (subst T (sym e) tt)) in
@@ -94,8 +100,4 @@ made-anew (Sloped low high order factor) i e = go (makeAxis low high order) refl
 pub not-made-up : (a : Axis) → makeAxis (lowOf a) (highOf a) (orderOf a) ≡ made.Made a → madeUp a ≡ false
 unfolding madeUp isAnew
 not-made-up (Flat low high order) e = rw e
-not-made-up (Sloped low high order factor) e =
-    let r = answered low high order (Sloped low high order factor) e in
-    let k = made-sloped low high order (r .1) in
-    let j = subst (λ (x : Float). T (nonneg x)) (sym (k .2)) (factor-ends low high order (r .0) (k .1) .0) in
-    rw (e, same-itself factor (nonneg-no-nan factor j))
+not-made-up (Sloped low high order factor) e = rw (e, same-itself factor (made-no-nan low high order e))

@@ -20,8 +20,6 @@ use Rattle.axis_laws.proofs.Passed.{sound}
 use Rattle.axis_laws.proofs.AtMostOneStep.{few, wide}
 use Rattle.axis.proofs.factor_of.Statement.{statement}
 use Rattle.axis.proofs.factor_of.Tie as tie
-use Rattle.axis.proofs.factor_of.Reads as reads
-use Rattle.axis.proofs.factor_of.Lts as lts
 
 abbrev Inv-loop : tie.InvT-loop
 Inv-loop low high order w n f₀ f =

@@ -11,11 +11,6 @@ use Rattle.rules.specs.declared.Axis.the-variants.{Sloped}
 use Rattle.rules.specs.declared.AxisAnswer.the-variants as made
 use Rattle.axis.proofs.make_axis.Statement.{statement}
 use Rattle.axis.proofs.make_axis.Tie as tie
-use Rattle.axis.proofs.make_axis.Reads as reads
-use Rattle.axis.proofs.make_axis.Lts as lts
-use Rattle.axis.proofs.factor_of.Reads as factor-of-reads
-use Rattle.axis.proofs.thin.Reads as thin-reads
-use Rattle.axis.proofs.unfit.Reads as unfit-reads
 
 returns : tie.Need-returns
 unfolding makeAxis axisBy refuseAxis
