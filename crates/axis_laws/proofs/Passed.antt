@@ -1,0 +1,79 @@
+-- What the tests of document 01 say once they are passed: of a value, of an axis, of a value on an axis. Assumes nothing.
+use mathlib.Core.Path.{_≡_, refl, sym, ap, _∙_, subst}
+use Prim.Native.Nat.{ℕ, zero, suc, _≤_}
+use native.Mathlib.Omega.{arith}
+use mathlib.Core.Bool.{Bool, true, false, not, _&&_, _||_, true≢false}
+use mathlib.Core.List.{[], _∷_}
+use lib.IntN.{pos, negsuc}
+use lib.Dec.{T}
+use borrow.Author.Tests.{ltb-false, not-false}
+use lib.Ieee.{Float, fin, le, lt}
+use lib.Ieee.Scale.{finite}
+use Rattle.rules.specs.Sums.{any}
+use Rattle.rules.specs.Refusals.{top2, refuse, valueUnfit, axisThin, nought, width, reversed, outside, orderOver, refuseAxis, refuseCell}
+use Rattle.laws.proofs.Any.{neither}
+use Rattle.axis_laws.proofs.SubMono.{and-l, and-r}
+use Rattle.axis_laws.proofs.Width.{in-size-finite}
+
+pub passed : (b : Bool) (n later : ℕ) → refuse b (suc n) later ≡ 0 → (b ≡ false) × (later ≡ 0)
+passed true n later e = absurd (omega arith)
+passed false n later e = (refl, e)
+
+pub passes : (b : Bool) (n later : ℕ) → b ≡ false → later ≡ 0 → refuse b n later ≡ 0
+passes true n later p q = absurd (true≢false p)
+passes false n later p q = q
+
+-- A FIT VALUE
+
+fit : (x : Float) → valueUnfit x ≡ false → T (le (fin true 1 (pos 20)) x && le x (fin false 1 (pos 20)))
+unfolding valueUnfit
+fit x e = subst T (sym (not-false (le (fin true 1 (pos 20)) x && le x (fin false 1 (pos 20))) e)) tt
+
+pub fit-low : (x : Float) → valueUnfit x ≡ false → T (le (fin true 1 (pos 20)) x)
+fit-low x e = and-l (le (fin true 1 (pos 20)) x) (le x (fin false 1 (pos 20))) (fit x e)
+
+pub fit-high : (x : Float) → valueUnfit x ≡ false → T (le x (fin false 1 (pos 20)))
+fit-high x e = and-r (le (fin true 1 (pos 20)) x) (le x (fin false 1 (pos 20))) (fit x e)
+
+pub fit-finite : (x : Float) → valueUnfit x ≡ false → T (finite x)
+fit-finite x e = in-size-finite x (fit-low x e) (fit-high x e)
+
+-- AN AXIS
+
+pub record Sound (low high : Float) (order : ℕ) : Type 0 where
+  pub order-fit : order ≤ 30
+  pub low-fit : valueUnfit low ≡ false
+  pub high-fit : valueUnfit high ≡ false
+  pub ordered : lt high low ≡ false
+  pub not-thin : axisThin low high ≡ false
+
+pub sound : (low high : Float) (order : ℕ) → refuseAxis low high order ≡ 0 → Sound low high order
+unfolding refuseAxis any
+sound low high order e =
+    let a = passed (orderOver top2 order) 0 _ e in
+    let b = passed (any valueUnfit (low ∷ high ∷ [])) 5 _ (a .1) in
+    let c = passed (reversed low high) 7 _ (b .1) in
+    let d = passed (axisThin low high) 6 0 (c .1) in
+    let l = neither (valueUnfit low) (valueUnfit high || false) (b .0) in
+    record { order-fit = ltb-false 30 order (a .0); low-fit = l .0; high-fit = neither (valueUnfit high) false (l .1) .0; ordered = c .0; not-thin = d .0 }
+
+-- A VALUE ON AN AXIS
+
+pub record Inside (madeUp : Bool) (low high value : Float) : Type 0 where
+  pub made : madeUp ≡ false
+  pub value-fit : valueUnfit value ≡ false
+  pub not-below : lt value low ≡ false
+  pub not-above : lt high value ≡ false
+
+pub inside : (madeUp : Bool) (low high value : Float) → refuseCell madeUp low high value ≡ 0 → Inside madeUp low high value
+unfolding refuseCell
+inside madeUp low high value e =
+    let a = passed madeUp 7 _ e in
+    let b = passed (valueUnfit value) 5 _ (a .1) in
+    let c = passed (outside low high value) 7 0 (b .1) in
+    let d = neither (lt value low) (lt high value) (c .0) in
+    record { made = a .0; value-fit = b .0; not-below = d .0; not-above = d .1 }
+
+pub inside-answered : (madeUp : Bool) (low high value : Float) → Inside madeUp low high value → refuseCell madeUp low high value ≡ 0
+unfolding refuseCell
+inside-answered madeUp low high value i = simp (i .made, i .value-fit, i .not-below, i .not-above)

@@ -1,0 +1,1 @@
+// Laws of an axis and its cells, in proofs/.
