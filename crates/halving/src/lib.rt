@@ -1,0 +1,4 @@
+// Halving a grid.
+pub mod lines;
+pub mod median;
+pub mod subgrid;
