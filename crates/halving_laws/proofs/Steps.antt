@@ -58,3 +58,11 @@ first-places {node} {d} {n} p f = record { room = first-room node d n f (p .room
 
 pub second-places : {node d n : ℕ} → Places node d n → (d ≡ 0 → ⊥) → Places (2 * node + 1) (d - 1) n
 second-places {node} {d} {n} p f = record { room = second-room node d n f (p .room); short = p .short }
+
+-- the nodes of splits for twelve levels are small
+pub small-node : (node d n : ℕ) → (d ≡ 0 → ⊥) → Places node d n → node ≤ 4095
+small-node node d n f p = omega (arith, p .short, p .room .first, place-here node d n f p)
+
+-- one level fewer
+pub falls-by : {d t : ℕ} → (d ≡ 0 → ⊥) → d ≡ t → d - 1 < t
+falls-by f e = omega arith
