@@ -1,0 +1,4 @@
+pub mod Solid
+pub mod Median
+pub mod SubGrids
+pub mod Parts

@@ -1,0 +1,140 @@
+// Halving in three dimensions: y, z and x in turn.
+use super::subgrid;
+use super::subgrid::Grid;
+use super::subgrid::SubGrid;
+ghost use mathlib.Core.Path.{_≡_};
+ghost use lib.ListN.{length};
+ghost use Rattle.halving_laws.specs.Nodes.{Places};
+ghost use Rattle.halving.specs.SubGrids.{space, acrossX, acrossY, acrossZ, tree, Sound};
+
+// Writes the splits of `depth` levels below a block of weight `total`, the first across y.
+pub fn recurse_3d_y(
+    weights: &[u64],
+    g: Grid,
+    b: SubGrid,
+    total: u64,
+    node: usize,
+    depth: usize,
+    splits: &mut [u32],
+)
+    requires { ⌜ Sound space g (now weights) b total ⌝ }
+    requires { ⌜ Places node depth (length (now splits)) ⌝ }
+    ensures { λ _. ⌜ now (splits .exit) ≡ tree space g (now (weights .entry)) depth acrossY b node (now (splits .entry)) ⌝ }
+{
+    if depth == 0 {
+        return;
+    }
+    if b.height == 0 {
+        return;
+    }
+    let median = subgrid::y_cut(weights, g, b, total);
+    let at = median.position;
+    let left = median.left;
+    splits[node - 1] = subgrid::y_split(b, at);
+    recurse_3d_z(
+        weights,
+        g,
+        subgrid::y_left(b, at),
+        left,
+        2 * node,
+        depth - 1,
+        splits,
+    );
+    recurse_3d_z(
+        weights,
+        g,
+        subgrid::y_right(b, at),
+        total - left,
+        2 * node + 1,
+        depth - 1,
+        splits,
+    );
+}
+
+// Writes the splits of `depth` levels below a block of weight `total`, the first across z.
+pub fn recurse_3d_z(
+    weights: &[u64],
+    g: Grid,
+    b: SubGrid,
+    total: u64,
+    node: usize,
+    depth: usize,
+    splits: &mut [u32],
+)
+    requires { ⌜ Sound space g (now weights) b total ⌝ }
+    requires { ⌜ Places node depth (length (now splits)) ⌝ }
+    ensures { λ _. ⌜ now (splits .exit) ≡ tree space g (now (weights .entry)) depth acrossZ b node (now (splits .entry)) ⌝ }
+{
+    if depth == 0 {
+        return;
+    }
+    if b.layers == 0 {
+        return;
+    }
+    let median = subgrid::z_cut(weights, g, b, total);
+    let at = median.position;
+    let left = median.left;
+    splits[node - 1] = subgrid::z_split(b, at);
+    recurse_3d_x(
+        weights,
+        g,
+        subgrid::z_left(b, at),
+        left,
+        2 * node,
+        depth - 1,
+        splits,
+    );
+    recurse_3d_x(
+        weights,
+        g,
+        subgrid::z_right(b, at),
+        total - left,
+        2 * node + 1,
+        depth - 1,
+        splits,
+    );
+}
+
+// Writes the splits of `depth` levels below a block of weight `total`, the first across x.
+pub fn recurse_3d_x(
+    weights: &[u64],
+    g: Grid,
+    b: SubGrid,
+    total: u64,
+    node: usize,
+    depth: usize,
+    splits: &mut [u32],
+)
+    requires { ⌜ Sound space g (now weights) b total ⌝ }
+    requires { ⌜ Places node depth (length (now splits)) ⌝ }
+    ensures { λ _. ⌜ now (splits .exit) ≡ tree space g (now (weights .entry)) depth acrossX b node (now (splits .entry)) ⌝ }
+{
+    if depth == 0 {
+        return;
+    }
+    if b.width == 0 {
+        return;
+    }
+    let median = subgrid::x_cut(weights, g, b, total);
+    let at = median.position;
+    let left = median.left;
+    splits[node - 1] = subgrid::x_split(b, at);
+    recurse_3d_y(
+        weights,
+        g,
+        subgrid::x_left(b, at),
+        left,
+        2 * node,
+        depth - 1,
+        splits,
+    );
+    recurse_3d_y(
+        weights,
+        g,
+        subgrid::x_right(b, at),
+        total - left,
+        2 * node + 1,
+        depth - 1,
+        splits,
+    );
+}

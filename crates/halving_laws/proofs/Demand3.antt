@@ -1,0 +1,64 @@
+-- Demand 3: the splits of a call that is not refused are a tree of fair cuts, and every such tree is balanced.
+use Prim.Native.Nat.{ℕ, zero, suc, _+_, _*_, _^_, _≤_, _<_}
+use native.Mathlib.Omega.{arith}
+use mathlib.Core.Path.{_≡_, refl}
+use mathlib.Core.List.{List, [], _∷_}
+use lib.Dec.{lit≤}
+use lib.ListN.{getD, length}
+use Rattle.rules.specs.Grid.{cells, whole, allWeight}
+use Rattle.rules.specs.Refusals.{sliceBy, refuseHalving}
+use Rattle.rules.specs.Halving.{Edition, edition1, Halving, halving2, halving3, splitsBy, idsBy, refusalOf, halve}
+use Rattle.rules.specs.Demands.{Demand3, Demand3Of, Demand3In2D, Demand3In3D}
+use Rattle.rules.specs.declared.Halving2.{Halving2}
+use Rattle.rules.specs.declared.Halving3.{Halving3}
+use Rattle.halving_laws.specs.Fair.{FairTree, Structured}
+use Rattle.halving_laws.specs.Accepted.{Accepted}
+use Rattle.halving_laws.proofs.Totals.{total-le}
+use Rattle.halving_laws.proofs.Blocks.{whole-length}
+use Rattle.halving_laws.proofs.LoHi.{lo-limits, hi-limits}
+use Rattle.halving_laws.proofs.FairCut.{Limits}
+use Rattle.halving_laws.proofs.Ids.{ids-below, parts-add-up}
+use Rattle.halving_laws.proofs.Filled.{splits-follow, follows-fair, follows-structured}
+use Rattle.halving_laws.proofs.Balance.{fair-tree-is-balanced}
+use Rattle.halving_laws.proofs.Accepted.{accepted}
+
+-- edition 1 keeps to the limits
+pub edition1-limits : (t : ℕ) → t < 2 ^ 45 → Limits edition1 t
+edition1-limits t h =
+    let l = lo-limits t h in
+    let u = hi-limits t h in
+    omega arith
+
+-- all cells weigh less than 2 ^ 45
+pub weight-fits : {h : Halving} {ws splits ids : List ℕ} → Accepted h ws splits ids → allWeight (h .sides) ws < 2 ^ 45
+unfolding allWeight
+weight-fits {h} {ws} r =
+    omega (arith, r .few, total-le (λ c. getD ws c 0) 16777215 (cells (h .sides)) (λ c l. r .light c (omega (arith, r .weights-long))))
+
+module _ (h : Halving) (limits : (t : ℕ) → t < 2 ^ 45 → Limits (h .edition) t) (axis : h .first < length (h .sides)) where
+  -- the rule's cuts are fair
+  pub fair : {ws splits ids : List ℕ} → Accepted h ws splits ids → FairTree (h .sides) ws (splitsBy h ws) (h .depth) (h .first) 1 (whole (h .sides))
+  fair {ws} r =
+      follows-fair (h .edition) (h .sides) ws (splitsBy h ws) (h .depth) (h .first) 1 (whole (h .sides))
+      (λ t l. limits t (omega (arith, weight-fits r))) axis (whole-length (h .sides)) (splits-follow (h .edition) (h .sides) ws (h .first) (h .depth))
+
+  -- each cut lies in its block, and a node is uncut just where its side is 0 or its parent is uncut
+  pub structured : (ws : List ℕ) → Structured (splitsBy h ws) (length (h .sides)) (h .depth) (h .first) 1 (whole (h .sides))
+  structured ws =
+      follows-structured (h .edition) (h .sides) ws (splitsBy h ws) (h .depth) (h .first) 1 (whole (h .sides))
+      (splits-follow (h .edition) (h .sides) ws (h .first) (h .depth))
+
+  pub demand-3 : Demand3Of h
+  unfolding halve sliceBy
+  demand-3 ws splits ids e =
+      let r = accepted h ws splits ids e in
+      rw e (record {
+        balanced = λ i l. fair-tree-is-balanced (h .sides) ws (splitsBy h ws) (h .first) (h .depth) i axis (fair r) l;
+        adds-up = parts-add-up (h .sides) ws (idsBy h ws) (2 ^ h .depth) (ids-below (h .sides) (h .first) (h .depth) (splitsBy h ws));
+      })
+
+pub demand-3-in-2d : Demand3In2D
+demand-3-in-2d h = demand-3 (halving2 h) edition1-limits (lit≤ tt)
+
+pub demand-3-in-3d : Demand3In3D
+demand-3-in-3d h = demand-3 (halving3 h) edition1-limits (lit≤ tt)

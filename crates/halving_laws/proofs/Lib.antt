@@ -1,0 +1,14 @@
+pub mod Totals
+pub mod Blocks
+pub mod Weights
+pub mod Reach
+pub mod LoHi
+pub mod FairCut
+pub mod Ids
+pub mod Balance
+pub mod Heap
+pub mod Filled
+pub mod Nested
+pub mod Steps
+pub mod Accepted
+pub mod Demand3
