@@ -8,15 +8,16 @@ use lib.ListN.{getD, length}
 use lib.Dec.{leb}
 use borrow.Author.Tests.{leb-true, leb-false}
 use Rattle.text.specs.Bytes.{pick, isGap, isLineEnd, isHash}
-use Rattle.text.specs.Tokens.{firstFrom, stopsOf, runEnd, lineAt, tokenOn, tokenAt}
+use Rattle.text.specs.Tokens.{firstFrom, stopsOf, runEnd, tokenOn, tokenAt}
 use Rattle.text.specs.declared.token.Run.{Run}
 use Rattle.text.specs.declared.token.Run.the-variants as run
 use Rattle.text.specs.declared.token.Token.{Token}
-use Rattle.text.specs.declared.token.Token.the-variants.{Word, LineEnd, End}
+use Rattle.text.specs.declared.token.Token.the-variants.{Word, Comment, LineEnd, End}
 
 -- from a place on, in a text of n bytes
 abbrev pub GoesOn : ℕ → ℕ → Token → Type 0
 GoesOn at n (Word start end) = (at ≤ start) × (start < end) × (end ≤ n)
+GoesOn at n (Comment end) = (at < end) × (end ≤ n)
 GoesOn at n (LineEnd next) = (at < next) × (next ≤ n)
 GoesOn at n End = Unit {0}
 
@@ -59,6 +60,10 @@ word-stops : (b : ℕ) → isGap b ≡ false → isLineEnd b ≡ false → isHas
 unfolding stopsOf
 word-stops b p q r = rw (p, q, r)
 
+comment-goes-on : (b : ℕ) → isLineEnd b ≡ false → stopsOf run.Comment b ≡ false
+unfolding stopsOf
+comment-goes-on b p = p
+
 pub token-goes-on : (t : List ℕ) (at : ℕ) → GoesOn at (length t) (tokenAt t at)
 unfolding tokenAt runEnd
 token-goes-on t at =
@@ -69,10 +74,10 @@ token-goes-on t at =
     (λ short. let l : i < n = leb-false n i short in
     let gap : isGap (getD t i 0) ≡ false = ends-no-gap t at (n - at) (omega arith) in
     cases (isLineEnd (getD t i 0)) at n (LineEnd (i + 1)) _ (λ _. (omega arith, omega arith))
-    (λ line. cases (isHash (getD t i 0)) at n (lineAt t (runEnd run.Comment t i)) _
-    (λ _. let j : ℕ = runEnd run.Comment t i in
-    let k = run-on run.Comment t i in
-    cases (leb n j) at n End (LineEnd (j + 1)) (λ _. tt) (λ s. let m : j < n = leb-false n j s in (omega arith, omega arith)))
+    (λ line. cases (isHash (getD t i 0)) at n (Comment (runEnd run.Comment t i)) _
+    (λ _. let k = run-on run.Comment t i in
+    let p : i < runEnd run.Comment t i = past-first (stopsOf run.Comment) t i (n - i) (omega arith) (comment-goes-on (getD t i 0) line) in
+    (omega arith, omega arith))
     (λ hash. let k = run-on run.Word t i in
     let p : i < runEnd run.Word t i = past-first (stopsOf run.Word) t i (n - i) (omega arith) (word-stops (getD t i 0) gap line hash) in
     (omega arith, p, omega arith))))

@@ -8,7 +8,7 @@ use Rattle.text.specs.Bytes.{pick, isGap, isLineEnd, isHash}
 use Rattle.text.specs.declared.token.Run.{Run}
 use Rattle.text.specs.declared.token.Run.the-variants as run
 use Rattle.text.specs.declared.token.Token.{Token}
-use Rattle.text.specs.declared.token.Token.the-variants.{Word, LineEnd, End}
+use Rattle.text.specs.declared.token.Token.the-variants.{Word, Comment, LineEnd, End}
 
 -- the first place from at on, among n, whose byte passes the test; at + n where none does
 unfoldable pub firstFrom : (ℕ → Bool) → List ℕ → ℕ → ℕ → ℕ
@@ -24,16 +24,12 @@ stopsOf run.Word b = isGap b || (isLineEnd b || isHash b)
 unfoldable pub runEnd : Run → List ℕ → ℕ → ℕ
 runEnd r t at = firstFrom (stopsOf r) t at (length t - at)
 
--- the line's end at j, or the text's end
-abbrev pub lineAt : List ℕ → ℕ → Token
-lineAt t j = pick (leb (length t) j) End (LineEnd (j + 1))
-
 -- at i, the first place that is no gap
 abbrev pub tokenOn : List ℕ → ℕ → Token
 tokenOn t i =
     pick (leb (length t) i) End
     (pick (isLineEnd (getD t i 0)) (LineEnd (i + 1))
-    (pick (isHash (getD t i 0)) (lineAt t (runEnd run.Comment t i)) (Word i (runEnd run.Word t i))))
+    (pick (isHash (getD t i 0)) (Comment (runEnd run.Comment t i)) (Word i (runEnd run.Word t i))))
 
 unfoldable pub tokenAt : List ℕ → ℕ → Token
 tokenAt t at = tokenOn t (runEnd run.Gaps t at)

@@ -3,10 +3,11 @@ ghost use mathlib.Core.Path.{_≡_};
 ghost use Rattle.text.specs.Bytes.{isGap};
 ghost use Rattle.text.specs.Tokens.{stopsOf, runEnd, tokenAt};
 
-// What stands next in a text: a word from its first byte to before another, a line's end with the place after it, or the
-// text's end.
+// What stands next in a text: a word from its first byte to before another, a comment to before its line's end, a line's end
+// with the place after it, or the text's end.
 pub enum Token {
     Word(usize, usize),
+    Comment(usize),
     LineEnd(usize),
     End,
 }
@@ -80,11 +81,7 @@ pub fn next_token(text: &[u8], at: usize) -> Token
         return Token::LineEnd(i + 1);
     }
     if b == b'#' {
-        let j = run_end(text, i, Run::Comment);
-        if text.len() <= j {
-            return Token::End;
-        }
-        return Token::LineEnd(j + 1);
+        return Token::Comment(run_end(text, i, Run::Comment));
     }
     Token::Word(i, run_end(text, i, Run::Word))
 }

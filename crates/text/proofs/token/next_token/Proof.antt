@@ -2,7 +2,7 @@
 use mathlib.Core.Path.{_≡_, sym, ap}
 use borrow.Author.Tests.{le-leb, lt-leb, eq-eqb, ne-eqb}
 use Rattle.text.specs.Tokens.{tokenAt}
-use Rattle.text.specs.declared.token.Token.the-variants.{Word}
+use Rattle.text.specs.declared.token.Token.the-variants.{Word, Comment}
 use borrow.Author.Needs.{needs}
 use Rattle.text.proofs.token.next_token.Statement.{statement}
 use Rattle.text.proofs.token.next_token.Tie as tie
@@ -17,8 +17,8 @@ returns c = rw (← c .before .run-end .ensures) (simp (le-leb _ _ (c .if1 .take
 shared-slice-read-b : tie.Need-shared-slice-read-b
 shared-slice-read-b c = search needs
 
-add-t11 : tie.Need-add-t11
-add-t11 c = search needs
+add-t10 : tie.Need-add-t10
+add-t10 c = search needs
 
 returns-2 : tie.Need-returns-2
 unfolding tokenAt
@@ -30,26 +30,18 @@ run-end-requires-2 c κs = search needs
 returns-3 : tie.Need-returns-3
 unfolding tokenAt
 returns-3 c =
-    rw (← c .before .before .before .before .before .before .run-end .ensures)
-    (simp (lt-leb _ _ (c .before .before .before .before .before .if1 .left), ne-eqb _ _ (c .before .before .before .if2 .left), eq-eqb _ _ (c .before .before .if3 .taken), sym (c .before .run-end2 .ensures), le-leb _ _ (c .if4 .taken)))
-
-add-t13 : tie.Need-add-t13
-add-t13 c = search needs
-
-returns-4 : tie.Need-returns-4
-unfolding tokenAt
-returns-4 c =
-    rw (← c .before .before .before .before .before .before .run-end .ensures)
-    (simp (lt-leb _ _ (c .before .before .before .before .before .if1 .left), ne-eqb _ _ (c .before .before .before .if2 .left), eq-eqb _ _ (c .before .before .if3 .taken), sym (c .before .run-end2 .ensures), lt-leb _ _ (c .if4 .left)))
+    rw (← c .before .before .before .before .before .run-end .ensures)
+    (simp (lt-leb _ _ (c .before .before .before .before .if1 .left), ne-eqb _ _ (c .before .before .if2 .left), eq-eqb _ _ (c .before .if3 .taken)) (ap Comment (c .run-end2 .ensures)))
 
 run-end-requires-3 : tie.Need-run-end-requires-3
 run-end-requires-3 c κs = search needs
 
-returns-5 : tie.Need-returns-5
+returns-4 : tie.Need-returns-4
 unfolding tokenAt
-returns-5 c =
+returns-4 c =
     rw (← c .before .before .before .before .before .run-end .ensures)
-    (simp (lt-leb _ _ (c .before .before .before .before .if1 .left), ne-eqb _ _ (c .before .before .if2 .left), ne-eqb _ _ (c .before .if3 .left)) (ap (Word (c .before .before .before .before .before .run-end .result)) (c .run-end3 .ensures)))
+    (simp (lt-leb _ _ (c .before .before .before .before .if1 .left), ne-eqb _ _ (c .before .before .if2 .left), ne-eqb _ _ (c .before .if3 .left))
+    (ap (Word (c .before .before .before .before .before .run-end .result)) (c .run-end3 .ensures)))
 
 pub next-token-spec : {M : Type 1} → statement M
 next-token-spec =
@@ -58,11 +50,9 @@ next-token-spec =
     run-end-requires
     returns
     shared-slice-read-b
-    add-t11
+    add-t10
     returns-2
     run-end-requires-2
     returns-3
-    add-t13
-    returns-4
     run-end-requires-3
-    returns-5)
+    returns-4)
