@@ -178,3 +178,7 @@ no-bit-in-common e d (suc n) s c h =
 pub or-mix : (e d n : ℕ) (c : ℕ → ℕ) → e < d → bitOr (stretch d n (c e) * 2 ^ e) (mix e d n c) ≡ mix (suc e) d n c
 unfolding mix
 or-mix e d n c h = or-disjoint (stretch d n (c e) * 2 ^ e) (mix e d n c) (no-bit-in-common e d n (c e) c h)
+
+pub mix-one : (d n : ℕ) (c : ℕ → ℕ) → stretch d n (c 0) * 2 ^ 0 ≡ mix 1 d n c
+unfolding mix
+mix-one d n c = sym (add-zero (stretch d n (c 0) * 2 ^ 0))
