@@ -1,13 +1,14 @@
 // From a value to a cell: the axis of low, high and order, and where a value lies on it.
 //
-// An axis is flat, where its rounded width high - low is 0, or sloped with a factor f, the largest f64 at or below 2^order / width whose
-// product with the width rounds to less than 2^order. A value's cell is f * (value - low), its fraction dropped.
+// An axis is flat, where its width high - low is 0, or sloped with a factor: 2^order / width, stepped down until its product with the
+// width rounds to less than 2^order. The cell of a value is factor * (value - low), its fraction dropped; on a flat axis it is 0.
 //
 // A caller may rely on these, of axis_laws:
-//   cell-below         the cell of every accepted value lies below 2^order
-//   at-most-one-step   the factor is 2^order / width, or the next smaller f64
-//   made-anew          an axis record is accepted if and only if making it anew gives it back (with not-made-up)
-//   accepts            the axis of points, if it is not thin, accepts each of them
+//   cell-below                       the cell of every accepted value lies below 2^order
+//   at-most-one-step                 the factor is 2^order / width or the next smaller f64
+//   made-anew, not-made-up           a record is taken for made up unless making it anew gives it back
+//   accepts, refused-order-or-thin   the axis of fit points accepts each of them, and only its order or its width can refuse it
+//   first-zero-stays                 of 0.0 and -0.0 the first met is an end of the points
 ghost use mathlib.Core.Path.{_≡_};
 ghost use mathlib.Core.Bool.{false, cond};
 ghost use Prim.Native.Nat.{_≤_};
@@ -15,6 +16,7 @@ ghost use lib.Ieee.{binary64, toBits, lt, eq, isNan};
 ghost use Rattle.rules.specs.Refusals.{nought, width, valueUnfit, axisThin, refuseAxis, refuseCell, readAxis};
 ghost use Rattle.rules.specs.Curve.{defaultOrder};
 ghost use Rattle.rules.specs.Axis.{nextDown, factorOf, makeAxis, lowOf, highOf, orderOf, sameBits, madeUp, cellOn, cellOf, widen, extentOf};
+use rules::ANSWERED;
 use rules::Axis;
 use rules::AxisAnswer;
 use rules::CellAnswer;
@@ -118,7 +120,7 @@ pub fn number_of(answer: AxisAnswer) -> u32
     ensures { λ r. ⌜ r ≡ readAxis answer .number ⌝ }
 {
     match answer {
-        AxisAnswer::Made(_) => 0,
+        AxisAnswer::Made(_) => ANSWERED,
         AxisAnswer::Refused(number) => number,
     }
 }

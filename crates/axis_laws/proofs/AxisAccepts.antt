@@ -50,6 +50,27 @@ module _ (xs : List Float) (order : ℕ) (some : 0 < length xs) (fit : any value
       let o = at-most→nlt (extentOf xs .high) (extentOf xs .low) (fit-finite _ (p .high-fit)) (fit-finite _ (p .low-fit)) (p .ordered) in
       rw (p .low-fit, p .high-fit, o)
 
+  -- its answer, by whether it is thin
+  by-thin : order ≤ 30 → makeAxis (extentOf xs .low) (extentOf xs .high) order ≡ axisBy (refuse (thinOver xs) 7 0) (axisOver xs order)
+  unfolding makeAxis axisOver
+  by-thin few = rw (refused-order-or-thin, le-ltb 30 order few)
+
+  pub over-refused : (n : ℕ) → order ≤ 30 → makeAxis (extentOf xs .low) (extentOf xs .high) order ≡ made.Refused n → (thinOver xs ≡ true) × (n ≡ 7)
+  unfolding axisBy
+  over-refused n few e = go (thinOver xs) (sym (by-thin few) ∙ e)
+    where
+      go : (b : Bool) → axisBy (refuse b 7 0) (axisOver xs order) ≡ made.Refused n → (b ≡ true) × (n ≡ 7)
+      go true p = (refl, cc)
+      go false p = let y : _≡_ {A = ℕ} 0 1 = cc in absurd (omega arith)
+
+  pub over-made : (a : Axis) → order ≤ 30 → makeAxis (extentOf xs .low) (extentOf xs .high) order ≡ made.Made a → (thinOver xs ≡ false) × (a ≡ axisOver xs order)
+  unfolding axisBy
+  over-made a few e = go (thinOver xs) (sym (by-thin few) ∙ e)
+    where
+      go : (b : Bool) → axisBy (refuse b 7 0) (axisOver xs order) ≡ made.Made a → (b ≡ false) × (a ≡ axisOver xs order)
+      go true p = let y : _≡_ {A = ℕ} 0 1 = cc in absurd (omega arith)
+      go false p = (refl, cc)
+
   module _ (few : order ≤ 30) (thick : thinOver xs ≡ false) where
     pub not-refused : refuseAxis (extentOf xs .low) (extentOf xs .high) order ≡ 0
     not-refused = refused-order-or-thin ∙ rw (le-ltb 30 order few, thick)
