@@ -22,7 +22,7 @@ passed true n later e = absurd (positive e)
     positive : suc n ≡ 0 → ⊥
     positive e = omega arith
 
-side-fits : (s : ℕ) → sideUnfit s ≡ false → (1 ≤ s) × (s ≤ 1024)
+pub side-fits : (s : ℕ) → sideUnfit s ≡ false → (1 ≤ s) × (s ≤ 1024)
 side-fits s e =
     let t = neither (eqb s 0) (ltb 1024 s) e in
     let some = eqb-false s 0 (t .0) in

@@ -1,0 +1,74 @@
+-- `write_row` meets its contract: the cells passed have their ids, and the others what they held.
+use Prim.Native.Nat.{ℕ, _+_, _-_, _*_, _≤_, _<_}
+use native.Mathlib.Omega.{arith}
+use mathlib.Core.Path.{_≡_, refl, ap, sym, _∙_}
+use mathlib.Core.List.{List, [], _++_, append-nil}
+use lib.ListN.{length, drop, length-set}
+use lib.Seq.{drop-length}
+use borrow.Author.Needs.{needs}
+use Rattle.rules.specs.Sums.{list}
+use Rattle.halving.specs.Parts.{idOn}
+use Rattle.laws.proofs.Lists.{list-more}
+use Rattle.halving.proofs.parts.write_row.Statement.{statement}
+use Rattle.halving.proofs.parts.write_row.Tie as tie
+
+abbrev Inv-loop : tie.InvT-loop
+Inv-loop row₀ splits depth n first y z x₀ x-end row x =
+    (x ≤ length row₀) × (x-end ≡ length row₀) × (length row ≡ length row₀) × (row ≡ list (λ x. idOn splits n depth first x y z) x ++ drop x row₀)
+
+abbrev μ-loop : tie.MeasureT-loop
+μ-loop row₀ splits depth n first y z x₀ x-end row x = length row₀ - x
+
+loop-holds : tie.Need-loop-holds Inv-loop μ-loop
+unfolding list
+loop-holds c = (search needs, refl, refl, refl)
+
+part-of-requires : tie.Need-part-of-requires Inv-loop μ-loop
+part-of-requires c κs = let s = c .before .before .before .before .before in (s .pre .0, (s .pre .1, refl))
+
+mul-row : tie.Need-mul-row Inv-loop μ-loop
+mul-row c = search needs
+
+slice-write-row : tie.Need-slice-write-row Inv-loop μ-loop
+slice-write-row c = search needs
+
+add-x : tie.Need-add-x Inv-loop μ-loop
+add-x c = search needs
+
+loop-less : tie.Need-loop-less Inv-loop μ-loop
+loop-less c = search needs
+
+loop-again : tie.Need-loop-again Inv-loop μ-loop
+unfolding idOn
+loop-again c =
+    let s = c .before .before .before .before .before .before in (
+      search needs,
+      search needs,
+      simp length-set (search needs),
+      rw (c .before .before .before .loop .inv .3, c .part-of .ensures)
+          (list-more (λ x. idOn (s .args .splits .now) (s .args .n) (s .args .depth) (s .args .first) x (s .args .y) (s .args .z)) (s .args .row .now) (c .before .before .before .loop .x) (omega arith)),
+    )
+
+same-length : tie.Need-same-length Inv-loop μ-loop
+same-length c = search needs
+
+returns : tie.Need-returns Inv-loop μ-loop
+returns c =
+    let e : c .before .loop .x ≡ length (c .before .before .before .before .args .row .now) = omega arith in
+    c .before .loop .inv .3 ∙ rw (e, drop-length) (append-nil _)
+
+pub write-row-spec : {M : Type 1} → statement M
+write-row-spec =
+    tie.close
+    (tie.spec
+    Inv-loop
+    μ-loop
+    loop-holds
+    part-of-requires
+    mul-row
+    slice-write-row
+    add-x
+    loop-less
+    loop-again
+    same-length
+    returns)
