@@ -80,3 +80,8 @@ module _ (sides : List ℕ) (k : ℕ) (ws : List ℕ) (ni ns : ℕ) where
       → 0 ≡ refuseHalving sides k ws ni ns
   unfolding refuseHalving
   not-refused a b c d = rw (a, le-ltb 12 k b, c, d)
+
+-- a plane and its one layer are refused alike
+pub one-layer : (w h k : ℕ) (ws : List ℕ) (ni ns : ℕ) → refuseHalving (w ∷ h ∷ 1 ∷ []) k ws ni ns ≡ refuseHalving (w ∷ h ∷ []) k ws ni ns
+unfolding refuseHalving any cells
+one-layer w h k ws ni ns = refl

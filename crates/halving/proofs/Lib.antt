@@ -6,3 +6,4 @@ pub mod Way
 pub mod Rows
 pub mod Ids
 pub mod InOrder
+pub mod Whole

@@ -2,3 +2,4 @@ pub mod Solid
 pub mod Median
 pub mod SubGrids
 pub mod Parts
+pub mod Calls

@@ -4,6 +4,7 @@ use super::median;
 use super::median::WeightedMedian;
 ghost use mathlib.Core.Path.{_≡_};
 ghost use Prim.Native.Nat.{_+_, _*_, _<_, _≤_};
+ghost use Rattle.halving.specs.Calls.{wholeOf};
 ghost use Rattle.halving.specs.Median.{CutIs};
 ghost use Rattle.halving.specs.SubGrids.{acrossX, acrossY, acrossZ, start, side, edge, slab, leftPart, rightPart, solid, Lies};
 
@@ -39,6 +40,36 @@ fn layer(g: Grid) -> usize
     ensures { λ r. ⌜ r ≡ g .width * g .height ⌝ }
 {
     g.width * g.height
+}
+
+// The grid as a block.
+pub fn whole(g: Grid) -> SubGrid
+    ensures { λ r. ⌜ r ≡ wholeOf g ⌝ }
+{
+    SubGrid {
+        x: 0,
+        y: 0,
+        z: 0,
+        width: g.width,
+        height: g.height,
+        layers: g.layers,
+    }
+}
+
+// The weight of a block.
+pub fn weight(weights: &[u64], g: Grid, b: SubGrid) -> u64
+    requires { ⌜ Lies g (now weights) b ⌝ }
+    ensures { λ r. ⌜ r ≡ solid g (now (weights .entry)) b ⌝ }
+{
+    lines::solid(
+        weights,
+        corner(g, b),
+        b.width,
+        g.width,
+        b.height,
+        layer(g),
+        b.layers,
+    )
 }
 
 // Where a block of weight `total` is cut across x, and the weight before the cut.

@@ -11,4 +11,5 @@ pub mod Filled
 pub mod Nested
 pub mod Steps
 pub mod Accepted
+pub mod Answers
 pub mod Demand3

@@ -1,0 +1,63 @@
+-- `clear` meets its contract: the places passed hold the mark, and the others what they held.
+use Prim.Native.Nat.{ℕ, zero, suc, _+_, _-_, _*_, _^_, _≤_, _<_}
+use native.Mathlib.Omega.{arith}
+use mathlib.Core.Path.{_≡_, refl, ap, sym, _∙_}
+use mathlib.Core.List.{List, [], _++_, append-nil}
+use lib.ListN.{length, drop, replicate, length-set, length-replicate}
+use lib.Seq.{drop-length}
+use borrow.Author.Fill.{fill-more}
+use borrow.Author.Needs.{needs}
+use Rattle.halving.proofs.clear.Statement.{statement}
+use Rattle.halving.proofs.clear.Tie as tie
+
+abbrev Inv-loop : tie.InvT-loop
+Inv-loop splits₀ i₀ i-end splits i = (i ≤ length splits₀) × (i-end ≡ length splits₀) × (length splits ≡ length splits₀) × (splits ≡ replicate i 4294967295 ++ drop i splits₀)
+
+abbrev μ-loop : tie.MeasureT-loop
+μ-loop splits₀ i₀ i-end splits i = length splits₀ - i
+
+loop-holds : tie.Need-loop-holds Inv-loop μ-loop
+loop-holds c = (search needs, refl, refl, refl)
+
+mul-splits : tie.Need-mul-splits Inv-loop μ-loop
+mul-splits c = search needs
+
+slice-write-splits : tie.Need-slice-write-splits Inv-loop μ-loop
+slice-write-splits c = search needs
+
+add-i : tie.Need-add-i Inv-loop μ-loop
+add-i c = search needs
+
+loop-less : tie.Need-loop-less Inv-loop μ-loop
+loop-less c = search needs
+
+loop-again : tie.Need-loop-again Inv-loop μ-loop
+loop-again c = (
+  search needs,
+  search needs,
+  simp length-set (search needs),
+  rw (c .before .loop .inv .3) (fill-more (c .before .loop .i) 4294967295 (c .before .before .args .splits .now) (omega arith)),
+)
+
+same-length : tie.Need-same-length Inv-loop μ-loop
+same-length c = search needs
+
+returns : tie.Need-returns Inv-loop μ-loop
+returns c =
+    let e : c .before .loop .i ≡ length (c .before .before .args .splits .now) = omega arith in
+    c .before .loop .inv .3 ∙ rw (e, drop-length) (append-nil _)
+
+pub clear-spec : {M : Type 1} → statement M
+clear-spec =
+    tie.close
+    (tie.spec
+    Inv-loop
+    μ-loop
+    loop-holds
+    mul-splits
+    slice-write-splits
+    add-i
+    loop-less
+    loop-again
+    same-length
+    returns)
