@@ -9,12 +9,15 @@ ghost use lib.ListN.{getD};
 ghost use Rattle.rules.specs.Refusals.{readCoded, readCell2, readCell3, readCell};
 ghost use Rattle.rules.specs.Curve.{depositOf, encode2, encode3, decode2, decode3};
 ghost use Rattle.rules.specs.Axis.{makeAxis};
+ghost use Rattle.rules.specs.Halving.{halving2, halving3, halve};
 ghost use Rattle.skarvolm.specs.Cells.{cellFrom};
 use rules::AxisAnswer;
 use rules::Cell2;
 use rules::Cell3;
 use rules::CellAnswer;
 use rules::Coded;
+use rules::Halving2;
+use rules::Halving3;
 
 // The bits of `source` laid onto the set bits of `mask`.
 #[no_mangle]
@@ -143,4 +146,50 @@ pub extern "C" fn skarvolm_cell(low: f64, high: f64, order: u32, value: f64, cel
             number
         }
     }
+}
+
+// The splits and ids of a halved grid.
+#[no_mangle]
+pub extern "C" fn skarvolm_rcb_2d(
+    width: u32,
+    height: u32,
+    depth: u32,
+    weights: &[u64],
+    splits: &mut [u32],
+    ids: &mut [u32],
+) -> u32
+    ensures number { λ r. ⌜ r ≡ halve (halving2 (record { width = width; height = height; depth = depth })) (now (weights .entry)) (now (splits .entry)) (now (ids .entry)) .number ⌝ }
+    ensures splits { λ _. ⌜ now (splits .exit) ≡ halve (halving2 (record { width = width; height = height; depth = depth })) (now (weights .entry)) (now (splits .entry)) (now (ids .entry)) .splits ⌝ }
+    ensures ids { λ _. ⌜ now (ids .exit) ≡ halve (halving2 (record { width = width; height = height; depth = depth })) (now (weights .entry)) (now (splits .entry)) (now (ids .entry)) .ids ⌝ }
+{
+    let halving = Halving2 {
+        width,
+        height,
+        depth,
+    };
+    halving::rcb_2d(halving, weights, splits, ids)
+}
+
+// The splits and ids of a halved grid in 3D.
+#[no_mangle]
+pub extern "C" fn skarvolm_rcb_3d(
+    width: u32,
+    height: u32,
+    layers: u32,
+    depth: u32,
+    weights: &[u64],
+    splits: &mut [u32],
+    ids: &mut [u32],
+) -> u32
+    ensures number { λ r. ⌜ r ≡ halve (halving3 (record { width = width; height = height; layers = layers; depth = depth })) (now (weights .entry)) (now (splits .entry)) (now (ids .entry)) .number ⌝ }
+    ensures splits { λ _. ⌜ now (splits .exit) ≡ halve (halving3 (record { width = width; height = height; layers = layers; depth = depth })) (now (weights .entry)) (now (splits .entry)) (now (ids .entry)) .splits ⌝ }
+    ensures ids { λ _. ⌜ now (ids .exit) ≡ halve (halving3 (record { width = width; height = height; layers = layers; depth = depth })) (now (weights .entry)) (now (splits .entry)) (now (ids .entry)) .ids ⌝ }
+{
+    let halving = Halving3 {
+        width,
+        height,
+        layers,
+        depth,
+    };
+    halving::rcb_3d(halving, weights, splits, ids)
 }

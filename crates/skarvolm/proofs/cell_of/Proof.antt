@@ -22,7 +22,7 @@ number-of-requires c κs = search needs
 
 returns : tie.Need-returns
 unfolding cellFrom
-returns c = 
+returns c =
     let t = c .before .enum-told .given .1 in
     rw (← c .before .before .before .make-axis .ensures, t) (ap found.Refused (c .number-of .ensures ∙ ap (λ (a : AxisAnswer). readAxis a .number) t))
 

@@ -17,12 +17,12 @@ enum-known-answer-2 : tie.Need-enum-known-answer-2
 enum-known-answer-2 c = search needs
 
 returns : tie.Need-returns
-returns c = 
+returns c =
     let e = sym (c .before .answer .given .1) ∙ c .before .before .before .decode-2d .ensures in
     (ap (λ (a : Cell2). readCell2 a .number) e, (ap (λ (a : Cell2). getD (readCell2 a .value) 0 0) e, ap (λ (a : Cell2). getD (readCell2 a .value) 1 0) e))
 
 returns-2 : tie.Need-returns-2
-returns-2 c = 
+returns-2 c =
     let e = sym (c .before .answer2 .given .1) ∙ c .before .before .before .decode-2d .ensures in
     (ap (λ (a : Cell2). readCell2 a .number) e, (ap (λ (a : Cell2). getD (readCell2 a .value) 0 0) e, ap (λ (a : Cell2). getD (readCell2 a .value) 1 0) e))
 

@@ -16,12 +16,12 @@ enum-known-answer-2 : tie.Need-enum-known-answer-2
 enum-known-answer-2 c = search needs
 
 returns : tie.Need-returns
-returns c = 
+returns c =
     let e = sym (c .before .answer .given .1) ∙ c .before .before .before .encode-3d .ensures in
     (ap (λ (a : Coded). readCoded a .number) e, ap (λ (a : Coded). readCoded a .value) e)
 
 returns-2 : tie.Need-returns-2
-returns-2 c = 
+returns-2 c =
     let e = sym (c .before .answer2 .given .1) ∙ c .before .before .before .encode-3d .ensures in
     (ap (λ (a : Coded). readCoded a .number) e, ap (λ (a : Coded). readCoded a .value) e)
 
