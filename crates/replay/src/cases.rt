@@ -50,19 +50,31 @@ fn encode_3d(n: &[u64]) -> bool {
     is_index(curve::encode_3d(n[0], n[1], n[2], small(n[3])), n[4])
 }
 
+// An f64 by its bits; no list has one that is not finite.
+fn float(bits: u64) -> f64 {
+    if bits % 0x8000_0000_0000_0000 / 0x0010_0000_0000_0000 == 2047 {
+        return 0.0;
+    }
+    f64::from_bits(bits)
+}
+
 fn cell(n: &[u64]) -> bool {
     if n.len() != 5 {
         return false;
     }
-    let answer = axis::make_axis(f64::from_bits(n[0]), f64::from_bits(n[1]), small(n[2]));
+    let answer = axis::make_axis(float(n[0]), float(n[1]), small(n[2]));
     let AxisAnswer::Made(made) = answer else {
         return false;
     };
-    let found = axis::cell(made, f64::from_bits(n[3]));
+    let found = axis::cell(made, float(n[3]));
     match found {
         CellAnswer::Cell(c) => c == n[4],
         CellAnswer::Refused(_) => false,
     }
+}
+
+fn wide(x: u32) -> u64 {
+    x as u64
 }
 
 // Whether two slices hold the same numbers.
@@ -72,7 +84,7 @@ fn same(a: &[u32], b: &[u64]) -> bool {
     }
     let mut i: usize = 0;
     while i < a.len() {
-        if a[i] as u64 != b[i] {
+        if wide(a[i]) != b[i] {
             return false;
         }
         i += 1;
@@ -115,17 +127,14 @@ fn halved(number: u32, rest: &[u64], splits: &[u32], ids: &[u32]) -> bool {
     same(ids, &rest[cells + nodes..])
 }
 
-fn halving_2d(n: &[u64], splits: &mut [u32], ids: &mut [u32]) -> bool {
-    if n.len() < 3 {
-        return false;
-    }
-    let halving = Halving2 {
-        width: small(n[0]),
-        height: small(n[1]),
-        depth: small(n[2]),
-    };
-    let rest = &n[3..];
-    let nodes = nodes_of(small(n[2]));
+// Halves with the weights of a line's rest, and holds splits and ids against it.
+fn halve_2d(
+    halving: Halving2,
+    nodes: usize,
+    rest: &[u64],
+    splits: &mut [u32],
+    ids: &mut [u32],
+) -> bool {
     let cells = cells_in(rest.len(), nodes);
     if splits.len() < nodes {
         return false;
@@ -145,18 +154,26 @@ fn halving_2d(n: &[u64], splits: &mut [u32], ids: &mut [u32]) -> bool {
     halved(number, rest, &splits[..nodes], &ids[..cells])
 }
 
-fn halving_3d(n: &[u64], splits: &mut [u32], ids: &mut [u32]) -> bool {
-    if n.len() < 4 {
+fn halving_2d(n: &[u64], splits: &mut [u32], ids: &mut [u32]) -> bool {
+    if n.len() < 3 {
         return false;
     }
-    let halving = Halving3 {
+    let halving = Halving2 {
         width: small(n[0]),
         height: small(n[1]),
-        layers: small(n[2]),
-        depth: small(n[3]),
+        depth: small(n[2]),
     };
-    let rest = &n[4..];
-    let nodes = nodes_of(small(n[3]));
+    halve_2d(halving, nodes_of(small(n[2])), &n[3..], splits, ids)
+}
+
+// Halves with the weights of a line's rest, and holds splits and ids against it.
+fn halve_3d(
+    halving: Halving3,
+    nodes: usize,
+    rest: &[u64],
+    splits: &mut [u32],
+    ids: &mut [u32],
+) -> bool {
     let cells = cells_in(rest.len(), nodes);
     if splits.len() < nodes {
         return false;
@@ -174,4 +191,17 @@ fn halving_3d(n: &[u64], splits: &mut [u32], ids: &mut [u32]) -> bool {
         &mut ids[..cells],
     );
     halved(number, rest, &splits[..nodes], &ids[..cells])
+}
+
+fn halving_3d(n: &[u64], splits: &mut [u32], ids: &mut [u32]) -> bool {
+    if n.len() < 4 {
+        return false;
+    }
+    let halving = Halving3 {
+        width: small(n[0]),
+        height: small(n[1]),
+        layers: small(n[2]),
+        depth: small(n[3]),
+    };
+    halve_3d(halving, nodes_of(small(n[3])), &n[4..], splits, ids)
 }

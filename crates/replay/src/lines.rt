@@ -35,6 +35,9 @@ pub fn read_line(text: &[u8], at: usize, out: &mut [u64]) -> Line
                 count += 1;
                 i = end;
             }
+            Token::Comment(end) => {
+                i = end;
+            }
             Token::LineEnd(next) => return Line::Numbers(count, next),
             Token::End => return Line::Numbers(count, text.len()),
         }

@@ -7,11 +7,18 @@ use cases::agrees;
 use libc::STDOUT_FILENO;
 use lines::Line;
 use lines::read_line;
-ghost use Prim.Native.Nat.{_≤_};
+ghost use Prim.Native.Nat.{_≤_, _<_};
 ghost use lib.ListN.{length};
 
 // What a list came to: lines that agree, and lines that differ.
 pub struct Tally {
+    pub agree: usize,
+    pub differ: usize,
+}
+
+// The place after a line, and 1 where it agrees or differs.
+pub struct Step {
+    pub next: usize,
     pub agree: usize,
     pub differ: usize,
 }
@@ -23,6 +30,49 @@ fn complain(what: &[u8], text: &[u8], at: usize) {
         io::write_all(STDOUT_FILENO, what);
         io::print_decimal(STDOUT_FILENO, here.line as u64);
         io::write_all(STDOUT_FILENO, b"\n");
+    }
+}
+
+// One line, and the place after it: what it adds to the tally.
+fn replay_line(
+    kind: u8,
+    text: &[u8],
+    at: usize,
+    numbers: &mut [u64],
+    splits: &mut [u32],
+    ids: &mut [u32],
+) -> Step
+    requires { ⌜ at < length (now text) ⌝ }
+    ensures { λ r. ⌜ (at < r .next) × (r .next ≤ length (now (text .entry))) × (r .agree ≤ 1) × (r .differ ≤ 1) ⌝ }
+{
+    let line = read_line(text, at, numbers);
+    let Line::Numbers(count, next) = line else {
+        complain(b"  no number in line ", text, at);
+        return Step {
+            next: text.len(),
+            agree: 0,
+            differ: 1,
+        };
+    };
+    if count == 0 {
+        return Step {
+            next,
+            agree: 0,
+            differ: 0,
+        };
+    }
+    if agrees(kind, &numbers[..count], splits, ids) {
+        return Step {
+            next,
+            agree: 1,
+            differ: 0,
+        };
+    }
+    complain(b"  differs: line ", text, at);
+    Step {
+        next,
+        agree: 0,
+        differ: 1,
     }
 }
 
@@ -38,23 +88,10 @@ fn replay_lines(
     let mut differ: usize = 0;
     let mut at: usize = 0;
     while at < text.len() {
-        let line = read_line(text, at, numbers);
-        let Line::Numbers(count, next) = line else {
-            complain(b"  no number in line ", text, at);
-            return Tally {
-                agree,
-                differ: differ + 1,
-            };
-        };
-        if 0 < count {
-            if agrees(kind, &numbers[..count], splits, ids) {
-                agree += 1;
-            } else {
-                complain(b"  differs: line ", text, at);
-                differ += 1;
-            }
-        }
-        at = next;
+        let step = replay_line(kind, text, at, numbers, splits, ids);
+        agree += step.agree;
+        differ += step.differ;
+        at = step.next;
     }
     Tally { agree, differ }
 }
