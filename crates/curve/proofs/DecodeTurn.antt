@@ -8,9 +8,10 @@ use lib.Arith.{digits-div, digits-mod}
 use lib.Bits.{bitAnd, and-mask}
 use lib.Dec.{T}
 use lib.Pow.{pow-mono}
-use Rattle.rules.specs.Curve.{Machine, bit, level, undo, decode}
+use Rattle.rules.specs.Curve.{Machine, bit, level, undo, decode, coordinateOf}
 use Rattle.curve_laws.proofs.Parts.{part-lt, part-mod}
 use Rattle.curve_laws.proofs.Permutes.{permutes, row}
+use Rattle.curve_laws.proofs.RoundTrip.{coordinate-below}
 use Rattle.curve_laws.proofs.Turns.{decode-turn, at-most}
 use Rattle.curve.specs.Undoes.{undoEntry}
 
@@ -21,8 +22,12 @@ undo-entry {d} M s g h =
     ap (λ (n : ℕ). undoEntry M (n + g)) (mul-comm (2 ^ d) s)
     ∙ ap₂ (λ (r n : ℕ). let q : ℕ = undo M r n in 2 ^ d * M .next r q + q) (digits-div s h) (digits-mod s h)
 
-module _ {d : ℕ} (M : Machine d) (t : T (permutes M)) (index left state entry : ℕ) (p : 0 < left) (h : state < M .states)
-    (w : entry ≡ undoEntry M (2 ^ d * state + bitAnd (index / 2 ^ (d * (left - 1))) (2 ^ d - 1))) where
+-- what is done of the coordinate on axis e, shifted up by the levels left, and what is to come make the whole
+abbrev pub Done : {d : ℕ} → Machine d → ℕ → ℕ → ℕ → ℕ → ℕ → ℕ → Type 0
+Done {d} M index order e left state X = X * 2 ^ left + decode M e left state (λ j. level d j index) ≡ coordinateOf M order index e
+
+module _ {d : ℕ} (M : Machine d) (t : T (permutes M)) (index order left state shift entry : ℕ) (p : 0 < left) (h : state < M .states)
+    (q : shift ≡ d * (left - 1)) (w : entry ≡ undoEntry M (2 ^ d * state + bitAnd (index / 2 ^ shift) (2 ^ d - 1))) where
   digit : ℕ
   digit = level d (left - 1) index
 
@@ -30,7 +35,7 @@ module _ {d : ℕ} (M : Machine d) (t : T (permutes M)) (index left state entry 
   unfolding digit
   said =
       w
-      ∙ ap (λ (n : ℕ). undoEntry M (2 ^ d * state + n)) (and-mask (index / 2 ^ (d * (left - 1))) d)
+      ∙ ap (λ (n : ℕ). undoEntry M (2 ^ d * state + n)) (and-mask (index / 2 ^ shift) d ∙ ap (λ (n : ℕ). index / 2 ^ n % 2 ^ d) q)
       ∙ undo-entry M state digit (part-lt d (d * (left - 1)) index)
       ∙ ap (λ (n : ℕ). n + undo M state digit) (mul-comm (2 ^ d) (M .next state (undo M state digit)))
 
@@ -47,16 +52,16 @@ module _ {d : ℕ} (M : Machine d) (t : T (permutes M)) (index left state entry 
   pub next-state : entry / 2 ^ d < M .states
   next-state = subst (λ (n : ℕ). n < M .states) (sym next-is) (row M t state (undo M state digit) h below .next-lt)
 
-  -- X is what is done of the coordinate on axis e, b its next bit, N the whole
-  pub next-bit : (e X b N : ℕ) → e < d → b ≡ bit e entry → X * 2 ^ left + decode M e left state (λ j. level d j index) ≡ N
-      → (2 * X + b) * 2 ^ (left - 1) + decode M e (left - 1) (entry / 2 ^ d) (λ j. level d j index) ≡ N
+  -- b is the next bit of the coordinate
+  pub next-bit : (e X b : ℕ) → e < d → b ≡ bit e entry → Done M index order e left state X → Done M index order e (left - 1) (entry / 2 ^ d) (2 * X + b)
   unfolding digit
-  next-bit e X b N l f i =
+  next-bit e X b l f i =
       let g : b ≡ bit e (undo M state digit) = f ∙ sym (part-mod 1 e d entry (omega arith)) ∙ ap (bit e) quadrant-is in
       ap₂ (λ (n s : ℕ). (2 * X + n) * 2 ^ (left - 1) + decode M e (left - 1) s (λ j. level d j index)) g next-is
       ∙ sym (decode-turn M e left state X (λ j. level d j index) p)
       ∙ i
 
 -- what is done of a coordinate fits
-pub fits : (X left R N order : ℕ) → order ≤ 32 → N < 2 ^ order → X * 2 ^ left + R ≡ N → X < 2 ^ 32
-fits X left R N order o h e = omega (arith, at-most X left R N e, pow-mono o)
+pub fits : {d : ℕ} (M : Machine d) (index order e left state X : ℕ) → order ≤ 32 → Done M index order e left state X → X < 2 ^ 32
+fits {d} M index order e left state X o i =
+    omega (arith, at-most X left (decode M e left state (λ j. level d j index)) (coordinateOf M order index e) i, coordinate-below M order index e, pow-mono o)

@@ -3,3 +3,4 @@ pub mod Zorder
 pub mod DecodeTurn
 pub mod OctantTurn
 pub mod GroupTurn
+pub mod Once

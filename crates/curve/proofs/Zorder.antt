@@ -6,19 +6,19 @@ use lib.Bits.{bitOr}
 use lib.Dec.{lit<}
 use Rattle.rules.specs.Curve.{spread, level, cell2, cell3}
 use Rattle.curve_laws.proofs.Or.{or-assoc}
-use Rattle.curve_laws.proofs.Interleave.{stretch, comb, room, deposited, mix, mix-level, or-mix, mix-one}
+use Rattle.curve_laws.proofs.Interleave.{stretch, deposited, mix, mix-level, or-mix, mix-one}
 use Rattle.curve.specs.Interleaved.{Interleaved}
 
 interleaved : (d order : ℕ) (c : ℕ → ℕ) {z : ℕ} → z ≡ mix d d order c → Interleaved d order c z
 interleaved d order c e = record { at = λ k h. ap (level d k) e ∙ mix-level d order k c h }
 
--- 2D, with masks of n teeth below k places more
-pub zorder2 : (n k order x y : ℕ) {a b : ℕ} → order ≤ n → x < 2 ^ order → y < 2 ^ order
-    → a ≡ spread (room 2 n k) x (comb 2 1 n 0) → b ≡ spread (room 2 n k) y (comb 2 0 n 0) → Interleaved 2 order (cell2 x y) (bitOr a b)
-zorder2 n k order x y o p q u v =
+-- 2D, with masks of 32 teeth
+pub zorder2 : (order x y : ℕ) {a b : ℕ} → order ≤ 32 → x < 2 ^ order → y < 2 ^ order
+    → a ≡ spread 64 x 0xaaaa_aaaa_aaaa_aaaa → b ≡ spread 64 y 0x5555_5555_5555_5555 → Interleaved 2 order (cell2 x y) (bitOr a b)
+zorder2 order x y {a} {b} o p q u v =
     let c : ℕ → ℕ = cell2 x y in
-    let X = u ∙ deposited 2 1 n k 0 order x (lit< tt) o p in
-    let Y = v ∙ deposited 2 0 n k 0 order y (lit< tt) o q ∙ mix-one 2 order c in
+    let X : a ≡ stretch 2 order x * 2 ^ 1 = u ∙ deposited 2 1 32 0 0 order x (lit< tt) o p in
+    let Y : b ≡ mix 1 2 order c = v ∙ deposited 2 0 32 0 0 order y (lit< tt) o q ∙ mix-one 2 order c in
     interleaved 2 order c (ap₂ bitOr X Y ∙ or-mix 1 2 order c (lit< tt))
 
 -- 3D, with masks of 21 teeth below one place more, in which the lowest mask has another tooth

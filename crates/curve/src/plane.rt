@@ -99,13 +99,13 @@ fn back_2d(undo: &[u8; 16], index: u64, order: u32) -> Cell2
     requires { ⌜ Undoes plane (now undo) × (order ≤ 32) ⌝ }
     ensures { λ r. ⌜ r ≡ At (coordinateOf plane order index 1) (coordinateOf plane order index 0) ⌝ }
 {
-    let mut left = order;
+    let mut shift = 2 * order;
     let mut state: u64 = 0;
     let mut x: u64 = 0;
     let mut y: u64 = 0;
-    while 0 < left {
-        left -= 1;
-        let entry = undo_entry(undo, (4 * state + ((index >> (2 * left)) & 3)) as usize) as u64;
+    while 0 < shift {
+        shift -= 2;
+        let entry = undo_entry(undo, (4 * state + ((index >> shift) & 3)) as usize) as u64;
         x = 2 * x + ((entry >> 1) & 1);
         y = 2 * y + (entry & 1);
         state = entry >> 2;

@@ -113,14 +113,14 @@ fn back_3d(undo: &[u8; 96], index: u64, order: u32) -> Cell3
     requires { ⌜ Undoes space (now undo) × (order ≤ 21) ⌝ }
     ensures { λ r. ⌜ r ≡ At (coordinateOf space order index 2) (coordinateOf space order index 1) (coordinateOf space order index 0) ⌝ }
 {
-    let mut left = order;
+    let mut shift = 3 * order;
     let mut state: u64 = 0;
     let mut x: u64 = 0;
     let mut y: u64 = 0;
     let mut z: u64 = 0;
-    while 0 < left {
-        left -= 1;
-        let entry = undo_entry(undo, (8 * state + ((index >> (3 * left)) & 7)) as usize) as u64;
+    while 0 < shift {
+        shift -= 3;
+        let entry = undo_entry(undo, (8 * state + ((index >> shift) & 7)) as usize) as u64;
         x = 2 * x + ((entry >> 2) & 1);
         y = 2 * y + ((entry >> 1) & 1);
         z = 2 * z + (entry & 1);

@@ -10,7 +10,7 @@ use lib.Bits.{bitAnd, bitOr, and-zero-l, and-block, and-shifted, or-disjoint}
 use lib.Pow.{pow-add, pow-pos, pow-mono, shr-shr}
 use Rattle.rules.specs.Curve.{rest, placed, spread, bit, level, quadrant}
 use Rattle.curve_laws.proofs.Parts.{more, quadrant-lt}
-use Rattle.curve_laws.proofs.Spread.{spread-bit}
+use Rattle.curve_laws.proofs.Spread.{spread-bit, spread-zero}
 
 -- bits of the mask that are not set are passed over
 skip : (e k s m : ℕ) → spread (e + k) s (m * 2 ^ e) ≡ spread k s m * 2 ^ e
@@ -24,22 +24,6 @@ skip (suc e) k s m =
     ∙ spread-bit (e + k) s (m * 2 ^ e) 0 (lit< tt)
     ∙ ap (λ (n : ℕ). n * 2 + 0) (skip e k s m)
     ∙ q
-
--- a source of zero bits
-rest-zero : (b : ℕ) → rest b 0 ≡ 0
-rest-zero zero = refl
-rest-zero (suc b) = refl
-
-placed-zero : (b : ℕ) → placed b 0 ≡ 0
-placed-zero zero = refl
-placed-zero (suc b) = refl
-
-spread-zero : (k m : ℕ) → spread k 0 m ≡ 0
-unfolding spread
-spread-zero zero m = refl
-spread-zero (suc k) m =
-    ap₂ (λ (u v : ℕ). spread k u (m / 2) * 2 + v) (rest-zero (m % 2)) (placed-zero (m % 2))
-    ∙ ap (λ (u : ℕ). u * 2 + 0) (spread-zero k (m / 2))
 
 -- products regrouped
 swap : (a b c : ℕ) → a * b * c ≡ a * c * b

@@ -10,3 +10,4 @@ pub mod Turns
 pub mod Groups
 pub mod Spread
 pub mod Interleave
+pub mod Trips

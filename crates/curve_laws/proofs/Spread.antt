@@ -3,20 +3,38 @@
 use Prim.Native.Nat.{ℕ, zero, suc, _+_, _-_, _*_, _/_, _%_, _^_, _<_}
 use mathlib.Core.Path.{_≡_, refl, sym, ap, ap₂, _∙_, subst}
 use native.Mathlib.Omega.{arith}
-use native.Mathlib.Nat.{pow-suc, mul-assoc, add-zero, mul-one, div-add-mod'}
+use native.Mathlib.Decide.{ℕ-discrete}
+use native.Mathlib.Nat.{pow-suc, mul-assoc, mul-zero, add-zero, mul-one, div-add-mod'}
 use lib.Dec.{lit<}
 use lib.Arith.{digits-div, digits-mod}
-use lib.Bits.{bitAnd, and-block, and-self, and-zero-l, and-mask, bitOr, or-block, or-zero-r}
+use lib.Bits.{bitAnd, and-block, and-self, and-zero-l, and-mask, bitOr, or-block, or-zero-l, or-zero-r}
 use Rattle.rules.specs.Curve.{rest, placed, spread}
 
 pub spread-bit : (k s g r : ℕ) → r < 2 → spread (suc k) s (g * 2 + r) ≡ spread k (rest r s) g * 2 + placed r s
 unfolding spread
 spread-bit k s g r p = ap₂ (λ (q b : ℕ). spread k (rest b s) q * 2 + placed b s) (digits-div g p) (digits-mod g p)
 
+-- onto no set bit
 pub spread-none : (k s : ℕ) → spread k s 0 ≡ 0
 unfolding spread
 spread-none zero s = refl
 spread-none (suc k) s = omega (arith, spread-none k s)
+
+-- a source of zero bits
+rest-zero : (b : ℕ) → rest b 0 ≡ 0
+rest-zero zero = refl
+rest-zero (suc b) = refl
+
+placed-zero : (b : ℕ) → placed b 0 ≡ 0
+placed-zero zero = refl
+placed-zero (suc b) = refl
+
+pub spread-zero : (k m : ℕ) → spread k 0 m ≡ 0
+unfolding spread
+spread-zero zero m = refl
+spread-zero (suc k) m =
+    ap₂ (λ (u v : ℕ). spread k u (m / 2) * 2 + v) (rest-zero (m % 2)) (placed-zero (m % 2))
+    ∙ ap (λ (u : ℕ). u * 2 + 0) (spread-zero k (m / 2))
 
 -- a number and its complement have no bit in common
 flip-bit : (P g r : ℕ) → r < 2 → g < P → P * 2 - 1 - (g * 2 + r) ≡ (P - 1 - g) * 2 + (1 - r)
@@ -104,12 +122,25 @@ turn (suc k) s m h p =
     (by-bit k s (m / 2) (m % 2) (omega arith) (omega arith) (omega arith)
     (λ q. turn k s (m / 2) (omega (arith, pow-suc 2 k)) q))
 
--- the same in the code's terms: `negated` is zero minus the mask, modulo 2^64
-pub spread-turn : (source mask negated : ℕ) → mask < 2 ^ 64 → (mask ≡ 0 → ⊥) → negated < 2 ^ 64 → (negated + mask) % 2 ^ 64 ≡ 0
-    → spread 64 source mask ≡ bitOr (bitAnd source 1 * bitAnd mask negated) (spread 64 (source / 2) (bitAnd mask (mask - 1)))
+-- the same in the code's terms, where `negated` is zero minus the mask and `less` the mask minus 1, both modulo 2^64; and with no set bit left
+-- nothing is placed
+pub spread-turn : (source mask negated less : ℕ) → mask < 2 ^ 64 → negated < 2 ^ 64 → (negated + mask) % 2 ^ 64 ≡ 0 → less < 2 ^ 64
+    → (less + 1) % 2 ^ 64 ≡ mask
+    → bitOr (bitAnd source 1 * bitAnd mask negated) (spread 64 (source / 2) (bitAnd mask less)) ≡ spread 64 source mask
 unfolding Turn
-spread-turn source mask negated h p q e =
-    let n : negated ≡ 2 ^ 64 - mask = omega arith in
-    let o : bitAnd source 1 ≡ source % 2 = and-mask source 1 in
-    turn 64 source mask h (omega arith)
-    ∙ ap₂ (λ (x y : ℕ). bitOr (x * bitAnd mask y) (spread 64 (source / 2) (bitAnd mask (mask - 1)))) (sym o) (sym n)
+spread-turn source mask negated less h p e q f =
+    elim (ℕ-discrete mask 0) [
+      | yes z ↦
+          let none : (x : ℕ) → bitAnd mask x ≡ 0 = λ x. ap (λ (n : ℕ). bitAnd n x) z ∙ and-zero-l x in
+          ap₂ (λ (x y : ℕ). bitOr (bitAnd source 1 * x) (spread 64 (source / 2) y)) (none negated) (none less)
+          ∙ ap₂ bitOr (mul-zero (bitAnd source 1)) (spread-none 64 (source / 2))
+          ∙ or-zero-l 0
+          ∙ sym (ap (spread 64 source) z ∙ spread-none 64 source)
+      | no ne ↦
+          let a : bitAnd source 1 ≡ source % 2 = and-mask source 1 in
+          let b : negated ≡ 2 ^ 64 - mask = omega arith in
+          let c : less ≡ mask - 1 = omega arith in
+          ap₂ (λ (x y : ℕ). bitOr (bitAnd source 1 * bitAnd mask x) (spread 64 (source / 2) (bitAnd mask y))) b c
+          ∙ ap (λ (x : ℕ). bitOr (x * bitAnd mask (2 ^ 64 - mask)) (spread 64 (source / 2) (bitAnd mask (mask - 1)))) a
+          ∙ sym (turn 64 source mask h (omega arith))
+    ]

@@ -1,60 +1,81 @@
--- `deposit` meets its contract: what is done, OR the deposit of what is left of the source on what is left of the mask, is the whole deposit.
--- Each turn moves the mask's lowest set bit from the one to the other. Assumes nothing.
-use Prim.Native.Nat.{ℕ, _≤_, _<_, _-_, _*_, _^_}
+-- `deposit` meets its contract: no step changes what the deposit comes to, and with no bits left of the source or of the mask that is what is
+-- placed. Assumes nothing.
+use Prim.Native.Nat.{ℕ}
 use mathlib.Core.Path.{_≡_, _∙_, ap, sym}
 use native.Mathlib.Omega.{arith}
-use native.Mathlib.Nat.{mul-le-mul-right}
 use borrow.Author.Needs.{needs}
-use lib.Bits.{bitOr, and-le-l, and-le-r, mask-lt, or-zero-r}
-use Rattle.rules.specs.Curve.{spread}
-use Rattle.curve_laws.proofs.Or.{or-assoc}
-use Rattle.curve_laws.proofs.Spread.{spread-none, spread-turn}
+use lib.Bits.{bitOr, or-zero-r}
+use Rattle.rules.specs.Curve.{spread, depositOf}
+use Rattle.curve_laws.proofs.Spread.{spread-none, spread-zero}
+use Rattle.curve.specs.Depositing.{whole}
+use Rattle.curve.specs.declared.spread.Depositing.{Depositing}
 use Rattle.curve.proofs.spread.deposit.Statement.{statement}
 use Rattle.curve.proofs.spread.deposit.Tie as tie
 
 abbrev Inv-loop : tie.InvT-loop
-Inv-loop source mask result₀ bitmask₀ srcbit₀ result bitmask srcbit =
-    (bitmask < 2 ^ 64) × (bitOr result (spread 64 srcbit bitmask) ≡ spread 64 source mask)
+Inv-loop source mask d₀ d = whole d ≡ depositOf source mask
 
 abbrev μ-loop : tie.MeasureT-loop
-μ-loop source mask result₀ bitmask₀ srcbit₀ result bitmask srcbit = bitmask
-
--- a bit times a number is at most the number
-bit-times : (b n : ℕ) → b < 2 → n < 2 ^ 64 → b * n < 2 ^ 64
-bit-times b n p q = let h : b ≤ 1 = omega arith in omega (arith, mul-le-mul-right n h)
+μ-loop source mask d₀ d = d .srcbit
 
 loop-holds : tie.Need-loop-holds Inv-loop μ-loop
+unfolding whole
 loop-holds c = search needs
 
-wrapping-sub-u64-requires : tie.Need-wrapping-sub-u64-requires Inv-loop μ-loop
-wrapping-sub-u64-requires c κs = search needs
-
-sub-bitmask : tie.Need-sub-bitmask Inv-loop μ-loop
-sub-bitmask c = search needs
-
-mul-result : tie.Need-mul-result Inv-loop μ-loop
-mul-result c =
-    let at = c .before .before .loop in
-    record { fits = bit-times _ _ (mask-lt (at .srcbit) 1) (omega (arith, and-le-l (at .bitmask) (c .wrapping-sub-u64 .result))) }
-
-loop-less : tie.Need-loop-less Inv-loop μ-loop
-loop-less c = let at = c .before .before .loop in omega (arith, and-le-r (at .bitmask) (at .bitmask - 1))
-
-loop-again : tie.Need-loop-again Inv-loop μ-loop
-loop-again c =
-    let at = c .before .before .loop in
-    let turn = spread-turn (at .srcbit) (at .bitmask) (c .wrapping-sub-u64 .result) (at .inv .0) (c .before .loop-test .taken) (omega arith) (c .wrapping-sub-u64 .ensures) in (
-      omega (arith, and-le-r (at .bitmask) (at .bitmask - 1)),
-      or-assoc (at .result) _ _ ∙ ap (bitOr (at .result)) (sym turn) ∙ at .inv .1,
-    )
+-- where nothing is left to place
+all-placed : (d : Depositing) → spread 64 (d .srcbit) (d .bitmask) ≡ 0 → d .result ≡ whole d
+unfolding whole
+all-placed d e = sym (ap (bitOr (d .result)) e ∙ or-zero-r (d .result))
 
 returns : tie.Need-returns Inv-loop μ-loop
 returns c =
-    let at = c .before .loop in
-    let none : spread 64 (at .srcbit) (at .bitmask) ≡ 0 = ap (spread 64 (at .srcbit)) (c .loop-test .left) ∙ spread-none 64 (at .srcbit) in
-    sym (or-zero-r (at .result)) ∙ ap (bitOr (at .result)) (sym none) ∙ at .inv .1
+    let at = c .before .before .before .before .loop in
+    all-placed (at .d) (ap (spread 64 (at .d .srcbit)) (c .if2 .taken) ∙ spread-none 64 (at .d .srcbit)) ∙ at .inv
+
+place-requires : tie.Need-place-requires Inv-loop μ-loop
+place-requires c κs = search needs
+
+place-requires-2 : tie.Need-place-requires-2 Inv-loop μ-loop
+place-requires-2 c κs = search needs
+
+place-requires-3 : tie.Need-place-requires-3 Inv-loop μ-loop
+place-requires-3 c κs = search needs
+
+place-requires-4 : tie.Need-place-requires-4 Inv-loop μ-loop
+place-requires-4 c κs = search needs
+
+loop-less : tie.Need-loop-less Inv-loop μ-loop
+loop-less c =
+    let third = c .before in
+    let second = third .before in
+    let first = second .before in
+    omega (arith, c .place4 .ensures .1, third .place3 .ensures .1, second .place2 .ensures .1, first .place .ensures .1)
+
+loop-again : tie.Need-loop-again Inv-loop μ-loop
+loop-again c =
+    let third = c .before in
+    let second = third .before in
+    let first = second .before in
+    c .place4 .ensures .0 ∙ third .place3 .ensures .0 ∙ second .place2 .ensures .0 ∙ first .place .ensures .0
+    ∙ first .before .before .before .before .before .loop .inv
+
+returns-2 : tie.Need-returns-2 Inv-loop μ-loop
+returns-2 c =
+    let at = c .before .before .loop in
+    all-placed (at .d) (ap (λ (n : ℕ). spread 64 n (at .d .bitmask)) (c .if1 .left) ∙ spread-zero 64 (at .d .bitmask)) ∙ at .inv
 
 pub deposit-spec : {M : Type 1} → statement M
 deposit-spec =
     tie.close
-    (tie.spec Inv-loop μ-loop loop-holds wrapping-sub-u64-requires sub-bitmask mul-result loop-less loop-again returns)
+    (tie.spec
+    Inv-loop
+    μ-loop
+    loop-holds
+    returns
+    place-requires
+    place-requires-2
+    place-requires-3
+    place-requires-4
+    loop-less
+    loop-again
+    returns-2)
