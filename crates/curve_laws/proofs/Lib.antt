@@ -1,0 +1,12 @@
+pub mod All
+pub mod Parts
+pub mod Or
+pub mod Permutes
+pub mod RoundTrip
+pub mod Refusals
+pub mod NoTwoCellsShareAnIndex
+pub mod Demand2
+pub mod Turns
+pub mod Groups
+pub mod Spread
+pub mod Interleave
