@@ -1,0 +1,5 @@
+pub mod Points
+pub mod Filled
+pub mod Filed
+pub mod Axes
+pub mod Once
