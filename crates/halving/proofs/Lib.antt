@@ -1,7 +1,3 @@
-pub mod Bounds
-pub mod SubGrids
-pub mod Solids
-pub mod Cuts
 pub mod Way
 pub mod Rows
 pub mod Ids

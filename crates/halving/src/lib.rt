@@ -1,22 +1,20 @@
 // Halving a grid.
-pub mod lines;
-pub mod median;
 pub mod parts;
 pub mod plane;
 pub mod refusals;
 pub mod space;
-pub mod subgrid;
 
+use cuts::subgrid;
+use cuts::subgrid::Grid;
 use rules::ANSWERED;
 use rules::Halving2;
 use rules::Halving3;
 use rules::UNCUT;
-use subgrid::Grid;
 ghost use mathlib.Core.Path.{_≡_};
 ghost use lib.ListN.{length, replicate};
 ghost use Rattle.rules.specs.Halving.{uncut, halving2, halving3, splitsBy, idsBy, halve};
 ghost use Rattle.halving_laws.specs.Accepted.{Accepted};
-ghost use Rattle.halving.specs.SubGrids.{plane, space};
+ghost use Rattle.cuts.specs.SubGrids.{plane, space};
 ghost use Rattle.halving.specs.Calls.{gridOf2, gridOf3, halvingOf, Layered};
 
 // The axis of the first cut: y.

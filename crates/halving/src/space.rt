@@ -1,11 +1,11 @@
 // Halving in three dimensions: y, z and x in turn.
-use super::subgrid;
-use super::subgrid::Grid;
-use super::subgrid::SubGrid;
+use cuts::subgrid;
+use cuts::subgrid::Grid;
+use cuts::subgrid::SubGrid;
 ghost use mathlib.Core.Path.{_≡_};
 ghost use lib.ListN.{length};
 ghost use Rattle.halving_laws.specs.Nodes.{Places};
-ghost use Rattle.halving.specs.SubGrids.{space, acrossX, acrossY, acrossZ, tree, Sound};
+ghost use Rattle.cuts.specs.SubGrids.{space, acrossX, acrossY, acrossZ, tree, Sound};
 
 // Writes the splits of `depth` levels below a block of weight `total`, the first across y.
 pub fn recurse_3d_y(

@@ -7,7 +7,7 @@ use lib.Dec.{lit≤}
 use lib.ListN.{length}
 use borrow.Author.Needs.{needs}
 use Rattle.rules.specs.Halving.{splitsOf, splitsBy}
-use Rattle.halving.specs.SubGrids.{plane, tree}
+use Rattle.cuts.specs.SubGrids.{plane, tree}
 use Rattle.halving.specs.Calls.{halvingOf}
 use Rattle.halving.proofs.Ids.{ids-2d}
 use Rattle.halving.proofs.Whole.{block-whole, sides-fit, whole-lies, whole-sound, ids-long, root-places}

@@ -5,9 +5,9 @@ use native.Mathlib.Nat.{pos-of-ne-zero}
 use mathlib.Core.Path.{_≡_, _∙_}
 use lib.ListN.{length-set}
 use Rattle.halving_laws.proofs.Steps.{place-here, first-places, second-places, small-node, falls-by}
-use Rattle.halving.specs.SubGrids.{plane, acrossX, acrossY, CutOn}
-use Rattle.halving.proofs.SubGrids.{tree-end, tree-flat, tree-cut}
-use Rattle.halving.proofs.Cuts.{cut-on, left-sound, right-sound, left-at-most, split-fits}
+use Rattle.cuts.specs.SubGrids.{plane, acrossX, acrossY, CutOn}
+use Rattle.cuts.proofs.SubGrids.{tree-end, tree-flat, tree-cut}
+use Rattle.cuts.proofs.Cuts.{cut-on, left-sound, right-sound, left-at-most, split-fits}
 use borrow.Fn.Kinds.{In}
 use borrow.Fn.PlainCycle.{Measures, is, falls, and}
 use Rattle.halving.proofs.plane.recurse_2d_x.Reads as x
@@ -16,14 +16,14 @@ use Rattle.halving.proofs.plane.+recurse_2d_x+recurse_2d_y.Lts-recurse_
 use Rattle.halving.proofs.plane.recurse_2d_y.Reads as y
 use Rattle.halving.proofs.plane.recurse_2d_y.Kinds as y-kinds
 use Rattle.halving.proofs.plane.+recurse_2d_x+recurse_2d_y.Lts-recurse_2d_y as y-lts
-use Rattle.halving.proofs.subgrid.x_cut.Reads as x-cut-reads
-use Rattle.halving.proofs.subgrid.x_left.Reads as x-left-reads
-use Rattle.halving.proofs.subgrid.x_right.Reads as x-right-reads
-use Rattle.halving.proofs.subgrid.x_split.Reads as x-split-reads
-use Rattle.halving.proofs.subgrid.y_cut.Reads as y-cut-reads
-use Rattle.halving.proofs.subgrid.y_left.Reads as y-left-reads
-use Rattle.halving.proofs.subgrid.y_right.Reads as y-right-reads
-use Rattle.halving.proofs.subgrid.y_split.Reads as y-split-reads
+use Rattle.cuts.proofs.subgrid.x_cut.Reads as x-cut-reads
+use Rattle.cuts.proofs.subgrid.x_left.Reads as x-left-reads
+use Rattle.cuts.proofs.subgrid.x_right.Reads as x-right-reads
+use Rattle.cuts.proofs.subgrid.x_split.Reads as x-split-reads
+use Rattle.cuts.proofs.subgrid.y_cut.Reads as y-cut-reads
+use Rattle.cuts.proofs.subgrid.y_left.Reads as y-left-reads
+use Rattle.cuts.proofs.subgrid.y_right.Reads as y-right-reads
+use Rattle.cuts.proofs.subgrid.y_split.Reads as y-split-reads
 use Rattle.halving.proofs.plane.+recurse_2d_x+recurse_2d_y.{statement}
 use Rattle.halving.proofs.plane.+recurse_2d_x+recurse_2d_y.Tie.{close}
 

@@ -5,9 +5,9 @@ use native.Mathlib.Nat.{pos-of-ne-zero}
 use mathlib.Core.Path.{_≡_, _∙_}
 use lib.ListN.{length-set}
 use Rattle.halving_laws.proofs.Steps.{place-here, first-places, second-places, small-node, falls-by}
-use Rattle.halving.specs.SubGrids.{space, acrossX, acrossY, acrossZ, CutOn}
-use Rattle.halving.proofs.SubGrids.{tree-end, tree-flat, tree-cut}
-use Rattle.halving.proofs.Cuts.{cut-on, left-sound, right-sound, left-at-most, split-fits}
+use Rattle.cuts.specs.SubGrids.{space, acrossX, acrossY, acrossZ, CutOn}
+use Rattle.cuts.proofs.SubGrids.{tree-end, tree-flat, tree-cut}
+use Rattle.cuts.proofs.Cuts.{cut-on, left-sound, right-sound, left-at-most, split-fits}
 use borrow.Fn.Kinds.{In}
 use borrow.Fn.PlainCycle.{Measures, is, falls, and}
 use Rattle.halving.proofs.space.recurse_3d_x.Reads as x
@@ -19,18 +19,18 @@ use Rattle.halving.proofs.space.+recurse_3d_x+recurse_3d_y+recurse_3d_z
 use Rattle.halving.proofs.space.recurse_3d_z.Reads as z
 use Rattle.halving.proofs.space.recurse_3d_z.Kinds as z-kinds
 use Rattle.halving.proofs.space.+recurse_3d_x+recurse_3d_y+recurse_3d_z.Lts-recurse_3d_z as z-lts
-use Rattle.halving.proofs.subgrid.x_cut.Reads as x-cut-reads
-use Rattle.halving.proofs.subgrid.x_left.Reads as x-left-reads
-use Rattle.halving.proofs.subgrid.x_right.Reads as x-right-reads
-use Rattle.halving.proofs.subgrid.x_split.Reads as x-split-reads
-use Rattle.halving.proofs.subgrid.y_cut.Reads as y-cut-reads
-use Rattle.halving.proofs.subgrid.y_left.Reads as y-left-reads
-use Rattle.halving.proofs.subgrid.y_right.Reads as y-right-reads
-use Rattle.halving.proofs.subgrid.y_split.Reads as y-split-reads
-use Rattle.halving.proofs.subgrid.z_cut.Reads as z-cut-reads
-use Rattle.halving.proofs.subgrid.z_left.Reads as z-left-reads
-use Rattle.halving.proofs.subgrid.z_right.Reads as z-right-reads
-use Rattle.halving.proofs.subgrid.z_split.Reads as z-split-reads
+use Rattle.cuts.proofs.subgrid.x_cut.Reads as x-cut-reads
+use Rattle.cuts.proofs.subgrid.x_left.Reads as x-left-reads
+use Rattle.cuts.proofs.subgrid.x_right.Reads as x-right-reads
+use Rattle.cuts.proofs.subgrid.x_split.Reads as x-split-reads
+use Rattle.cuts.proofs.subgrid.y_cut.Reads as y-cut-reads
+use Rattle.cuts.proofs.subgrid.y_left.Reads as y-left-reads
+use Rattle.cuts.proofs.subgrid.y_right.Reads as y-right-reads
+use Rattle.cuts.proofs.subgrid.y_split.Reads as y-split-reads
+use Rattle.cuts.proofs.subgrid.z_cut.Reads as z-cut-reads
+use Rattle.cuts.proofs.subgrid.z_left.Reads as z-left-reads
+use Rattle.cuts.proofs.subgrid.z_right.Reads as z-right-reads
+use Rattle.cuts.proofs.subgrid.z_split.Reads as z-split-reads
 use Rattle.halving.proofs.space.+recurse_3d_x+recurse_3d_y+recurse_3d_z.{statement}
 use Rattle.halving.proofs.space.+recurse_3d_x+recurse_3d_y+recurse_3d_z.Tie.{close}
 
