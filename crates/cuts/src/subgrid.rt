@@ -4,6 +4,7 @@ use super::median;
 use super::median::WeightedMedian;
 ghost use mathlib.Core.Path.{_≡_};
 ghost use Prim.Native.Nat.{_+_, _*_, _<_, _≤_};
+ghost use lib.ListN.{length};
 ghost use Rattle.cuts.specs.Median.{CutIs};
 ghost use Rattle.cuts.specs.SubGrids.{acrossX, acrossY, acrossZ, start, side, edge, slab, leftPart, rightPart, solid, wholeOf, Lies};
 
@@ -71,13 +72,20 @@ pub fn weight(weights: &[u64], g: Grid, b: SubGrid) -> u64
     )
 }
 
-// Where a block of weight `total` is cut across x, and the weight before the cut.
-pub fn x_cut(weights: &[u64], g: Grid, b: SubGrid, total: u64) -> WeightedMedian
+// Where a block of weight `total` is cut across x, and the weight before the cut; `sums` is filled with the lines' weights.
+pub fn x_cut(
+    weights: &[u64],
+    g: Grid,
+    b: SubGrid,
+    total: u64,
+    sums: &mut [u64; 1024],
+) -> WeightedMedian
     requires { ⌜ Lies g (now weights) b ⌝ }
     requires { ⌜ (0 < side acrossX b) × (total < 35184372088832) ⌝ }
-    ensures { λ r. ⌜ CutIs (λ i. solid g (now (weights .entry)) (slab acrossX b i)) (side acrossX b) total (r .position) (r .left) ⌝ }
+    requires { ⌜ length (now sums) ≡ 1024 ⌝ }
+    ensures cut { λ r. ⌜ CutIs (λ i. solid g (now (weights .entry)) (slab acrossX b i)) (side acrossX b) total (r .position) (r .left) ⌝ }
+    ensures room { λ _. ⌜ length (now (sums .exit)) ≡ 1024 ⌝ }
 {
-    let mut sums = [0u64; 1024];
     lines::line_sums(
         weights,
         corner(g, b),
@@ -88,9 +96,9 @@ pub fn x_cut(weights: &[u64], g: Grid, b: SubGrid, total: u64) -> WeightedMedian
         b.height,
         layer(g),
         b.layers,
-        &mut sums,
+        sums,
     );
-    median::weighted_median(&sums, b.width, total)
+    median::weighted_median(sums, b.width, total)
 }
 
 // The part of a block below the cut.
@@ -130,13 +138,20 @@ pub fn x_split(b: SubGrid, at: usize) -> u32
     (b.x + at) as u32
 }
 
-// Where a block of weight `total` is cut across y, and the weight before the cut.
-pub fn y_cut(weights: &[u64], g: Grid, b: SubGrid, total: u64) -> WeightedMedian
+// Where a block of weight `total` is cut across y, and the weight before the cut; `sums` is filled with the lines' weights.
+pub fn y_cut(
+    weights: &[u64],
+    g: Grid,
+    b: SubGrid,
+    total: u64,
+    sums: &mut [u64; 1024],
+) -> WeightedMedian
     requires { ⌜ Lies g (now weights) b ⌝ }
     requires { ⌜ (0 < side acrossY b) × (total < 35184372088832) ⌝ }
-    ensures { λ r. ⌜ CutIs (λ i. solid g (now (weights .entry)) (slab acrossY b i)) (side acrossY b) total (r .position) (r .left) ⌝ }
+    requires { ⌜ length (now sums) ≡ 1024 ⌝ }
+    ensures cut { λ r. ⌜ CutIs (λ i. solid g (now (weights .entry)) (slab acrossY b i)) (side acrossY b) total (r .position) (r .left) ⌝ }
+    ensures room { λ _. ⌜ length (now (sums .exit)) ≡ 1024 ⌝ }
 {
-    let mut sums = [0u64; 1024];
     lines::line_sums(
         weights,
         corner(g, b),
@@ -147,9 +162,9 @@ pub fn y_cut(weights: &[u64], g: Grid, b: SubGrid, total: u64) -> WeightedMedian
         1,
         layer(g),
         b.layers,
-        &mut sums,
+        sums,
     );
-    median::weighted_median(&sums, b.height, total)
+    median::weighted_median(sums, b.height, total)
 }
 
 // The part of a block below the cut.
@@ -189,13 +204,20 @@ pub fn y_split(b: SubGrid, at: usize) -> u32
     (b.y + at) as u32
 }
 
-// Where a block of weight `total` is cut across z, and the weight before the cut.
-pub fn z_cut(weights: &[u64], g: Grid, b: SubGrid, total: u64) -> WeightedMedian
+// Where a block of weight `total` is cut across z, and the weight before the cut; `sums` is filled with the lines' weights.
+pub fn z_cut(
+    weights: &[u64],
+    g: Grid,
+    b: SubGrid,
+    total: u64,
+    sums: &mut [u64; 1024],
+) -> WeightedMedian
     requires { ⌜ Lies g (now weights) b ⌝ }
     requires { ⌜ (0 < side acrossZ b) × (total < 35184372088832) ⌝ }
-    ensures { λ r. ⌜ CutIs (λ i. solid g (now (weights .entry)) (slab acrossZ b i)) (side acrossZ b) total (r .position) (r .left) ⌝ }
+    requires { ⌜ length (now sums) ≡ 1024 ⌝ }
+    ensures cut { λ r. ⌜ CutIs (λ i. solid g (now (weights .entry)) (slab acrossZ b i)) (side acrossZ b) total (r .position) (r .left) ⌝ }
+    ensures room { λ _. ⌜ length (now (sums .exit)) ≡ 1024 ⌝ }
 {
-    let mut sums = [0u64; 1024];
     let far = layer(g);
     lines::line_sums(
         weights,
@@ -207,9 +229,9 @@ pub fn z_cut(weights: &[u64], g: Grid, b: SubGrid, total: u64) -> WeightedMedian
         b.height,
         far,
         1,
-        &mut sums,
+        sums,
     );
-    median::weighted_median(&sums, b.layers, total)
+    median::weighted_median(sums, b.layers, total)
 }
 
 // The part of a block below the cut.

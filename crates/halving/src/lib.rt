@@ -39,7 +39,8 @@ fn halve_2d(g: Grid, depth: usize, weights: &[u64], splits: &mut [u32], ids: &mu
     clear(splits);
     let b = subgrid::whole(g);
     let total = subgrid::weight(weights, g, b);
-    plane::recurse_2d_y(weights, g, b, total, 1, depth, splits);
+    let mut sums = [0u64; 1024];
+    plane::recurse_2d_y(weights, g, b, total, 1, depth, splits, &mut sums);
     parts::write_ids(
         ids,
         splits,
@@ -62,7 +63,8 @@ fn halve_3d(g: Grid, depth: usize, weights: &[u64], splits: &mut [u32], ids: &mu
     clear(splits);
     let b = subgrid::whole(g);
     let total = subgrid::weight(weights, g, b);
-    space::recurse_3d_y(weights, g, b, total, 1, depth, splits);
+    let mut sums = [0u64; 1024];
+    space::recurse_3d_y(weights, g, b, total, 1, depth, splits, &mut sums);
     parts::write_ids(
         ids,
         splits,
