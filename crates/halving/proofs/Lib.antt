@@ -3,3 +3,4 @@ pub mod Rows
 pub mod Ids
 pub mod InOrder
 pub mod Whole
+pub mod Once
