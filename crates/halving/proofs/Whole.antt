@@ -13,11 +13,11 @@ use Rattle.halving_laws.specs.Accepted.{Accepted}
 use Rattle.halving_laws.proofs.Heap.{room-root}
 use Rattle.halving_laws.proofs.Weights.{weight-at-most-all}
 use Rattle.halving_laws.proofs.Demand3.{weight-fits}
-use Rattle.halving.specs.Solid.{Light}
-use Rattle.halving.specs.SubGrids.{Shape, plane, space, sidesOf, blockOf, solid, Readable, Lies, Flat, Sound}
-use Rattle.halving.specs.Calls.{halvingOf, Layered, wholeOf}
-use Rattle.halving.specs.declared.subgrid.Grid.{Grid}
-use Rattle.halving.proofs.Solids.{weight-is-solid}
+use Rattle.cuts.specs.Solid.{Light}
+use Rattle.cuts.specs.SubGrids.{Shape, plane, space, sidesOf, blockOf, solid, wholeOf, Readable, Lies, Flat, Sound}
+use Rattle.halving.specs.Calls.{halvingOf, Layered}
+use Rattle.cuts.specs.declared.subgrid.Grid.{Grid}
+use Rattle.cuts.proofs.Solids.{weight-is-solid}
 
 pub block-whole : (s : Shape) (g : Grid) → blockOf s (wholeOf g) ≡ whole (sidesOf s g)
 unfolding whole

@@ -4,9 +4,8 @@ use mathlib.Core.Path.{_≡_}
 use Rattle.rules.specs.Halving.{Halving, edition1}
 use Rattle.rules.specs.declared.Halving2.{Halving2}
 use Rattle.rules.specs.declared.Halving3.{Halving3}
-use Rattle.halving.specs.SubGrids.{Shape, plane, space, sidesOf}
-use Rattle.halving.specs.declared.subgrid.Grid.{Grid}
-use Rattle.halving.specs.declared.subgrid.SubGrid.{SubGrid}
+use Rattle.cuts.specs.SubGrids.{Shape, plane, space, sidesOf}
+use Rattle.cuts.specs.declared.subgrid.Grid.{Grid}
 
 abbrev pub gridOf2 : Halving2 → Grid
 gridOf2 h = record { width = h .width; height = h .height; layers = 1 }
@@ -22,7 +21,3 @@ halvingOf s g k = record { edition = edition1; sides = sidesOf s g; first = 1; d
 abbrev pub Layered : Shape → Grid → Type 0
 Layered plane g = g .layers ≡ 1
 Layered space g = Unit {0}
-
--- the grid as a block
-abbrev pub wholeOf : Grid → SubGrid
-wholeOf g = record { x = 0; y = 0; z = 0; width = g .width; height = g .height; layers = g .layers }

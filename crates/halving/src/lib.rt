@@ -1,22 +1,20 @@
 // Halving a grid.
-pub mod lines;
-pub mod median;
 pub mod parts;
 pub mod plane;
 pub mod refusals;
 pub mod space;
-pub mod subgrid;
 
+use cuts::subgrid;
+use cuts::subgrid::Grid;
 use rules::ANSWERED;
 use rules::Halving2;
 use rules::Halving3;
 use rules::UNCUT;
-use subgrid::Grid;
 ghost use mathlib.Core.Path.{_≡_};
 ghost use lib.ListN.{length, replicate};
 ghost use Rattle.rules.specs.Halving.{uncut, halving2, halving3, splitsBy, idsBy, halve};
 ghost use Rattle.halving_laws.specs.Accepted.{Accepted};
-ghost use Rattle.halving.specs.SubGrids.{plane, space};
+ghost use Rattle.cuts.specs.SubGrids.{plane, space};
 ghost use Rattle.halving.specs.Calls.{gridOf2, gridOf3, halvingOf, Layered};
 
 // The axis of the first cut: y.
@@ -41,7 +39,8 @@ fn halve_2d(g: Grid, depth: usize, weights: &[u64], splits: &mut [u32], ids: &mu
     clear(splits);
     let b = subgrid::whole(g);
     let total = subgrid::weight(weights, g, b);
-    plane::recurse_2d_y(weights, g, b, total, 1, depth, splits);
+    let mut sums = [0u64; 1024];
+    plane::recurse_2d_y(weights, g, b, total, 1, depth, splits, &mut sums);
     parts::write_ids(
         ids,
         splits,
@@ -64,7 +63,8 @@ fn halve_3d(g: Grid, depth: usize, weights: &[u64], splits: &mut [u32], ids: &mu
     clear(splits);
     let b = subgrid::whole(g);
     let total = subgrid::weight(weights, g, b);
-    space::recurse_3d_y(weights, g, b, total, 1, depth, splits);
+    let mut sums = [0u64; 1024];
+    space::recurse_3d_y(weights, g, b, total, 1, depth, splits, &mut sums);
     parts::write_ids(
         ids,
         splits,

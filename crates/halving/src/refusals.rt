@@ -1,6 +1,6 @@
 // Whether a call is refused, and with which number. A plane is a grid of one layer.
 use super::parts::wide;
-use super::subgrid::Grid;
+use cuts::subgrid::Grid;
 use rules::ANSWERED;
 use rules::REFUSED_DEPTH;
 use rules::REFUSED_LENGTHS;
@@ -15,7 +15,7 @@ ghost use Prim.Native.Nat.{_≤_, _-_, _^_};
 ghost use mathlib.Core.Bool.{_||_};
 ghost use mathlib.Core.List.{[], _∷_};
 ghost use Rattle.rules.specs.Refusals.{sideUnfit, sidesUnfit, lengthsOff, weightOver, refuseHalving};
-ghost use Rattle.halving.specs.SubGrids.{space, sidesOf};
+ghost use Rattle.cuts.specs.SubGrids.{space, sidesOf};
 
 // Whether a side is 0 or too long.
 fn side_unfit(side: usize) -> bool

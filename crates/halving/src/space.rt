@@ -1,13 +1,14 @@
 // Halving in three dimensions: y, z and x in turn.
-use super::subgrid;
-use super::subgrid::Grid;
-use super::subgrid::SubGrid;
+use cuts::subgrid;
+use cuts::subgrid::Grid;
+use cuts::subgrid::SubGrid;
 ghost use mathlib.Core.Path.{_≡_};
 ghost use lib.ListN.{length};
 ghost use Rattle.halving_laws.specs.Nodes.{Places};
-ghost use Rattle.halving.specs.SubGrids.{space, acrossX, acrossY, acrossZ, tree, Sound};
+ghost use Rattle.cuts.specs.SubGrids.{space, acrossX, acrossY, acrossZ, tree, Sound};
 
-// Writes the splits of `depth` levels below a block of weight `total`, the first across y.
+// Writes the splits of `depth` levels below a block of weight `total`, the first across y;
+// `sums` is the array that the lines' weights are filled into.
 pub fn recurse_3d_y(
     weights: &[u64],
     g: Grid,
@@ -16,10 +17,13 @@ pub fn recurse_3d_y(
     node: usize,
     depth: usize,
     splits: &mut [u32],
+    sums: &mut [u64; 1024],
 )
     requires { ⌜ Sound space g (now weights) b total ⌝ }
     requires { ⌜ Places node depth (length (now splits)) ⌝ }
-    ensures { λ _. ⌜ now (splits .exit) ≡ tree space g (now (weights .entry)) depth acrossY b node (now (splits .entry)) ⌝ }
+    requires { ⌜ length (now sums) ≡ 1024 ⌝ }
+    ensures cuts { λ _. ⌜ now (splits .exit) ≡ tree space g (now (weights .entry)) depth acrossY b node (now (splits .entry)) ⌝ }
+    ensures room { λ _. ⌜ length (now (sums .exit)) ≡ 1024 ⌝ }
 {
     if depth == 0 {
         return;
@@ -27,7 +31,7 @@ pub fn recurse_3d_y(
     if b.height == 0 {
         return;
     }
-    let median = subgrid::y_cut(weights, g, b, total);
+    let median = subgrid::y_cut(weights, g, b, total, sums);
     let at = median.position;
     let left = median.left;
     splits[node - 1] = subgrid::y_split(b, at);
@@ -39,6 +43,7 @@ pub fn recurse_3d_y(
         2 * node,
         depth - 1,
         splits,
+        sums,
     );
     recurse_3d_z(
         weights,
@@ -48,10 +53,12 @@ pub fn recurse_3d_y(
         2 * node + 1,
         depth - 1,
         splits,
+        sums,
     );
 }
 
-// Writes the splits of `depth` levels below a block of weight `total`, the first across z.
+// Writes the splits of `depth` levels below a block of weight `total`, the first across z;
+// `sums` is the array that the lines' weights are filled into.
 pub fn recurse_3d_z(
     weights: &[u64],
     g: Grid,
@@ -60,10 +67,13 @@ pub fn recurse_3d_z(
     node: usize,
     depth: usize,
     splits: &mut [u32],
+    sums: &mut [u64; 1024],
 )
     requires { ⌜ Sound space g (now weights) b total ⌝ }
     requires { ⌜ Places node depth (length (now splits)) ⌝ }
-    ensures { λ _. ⌜ now (splits .exit) ≡ tree space g (now (weights .entry)) depth acrossZ b node (now (splits .entry)) ⌝ }
+    requires { ⌜ length (now sums) ≡ 1024 ⌝ }
+    ensures cuts { λ _. ⌜ now (splits .exit) ≡ tree space g (now (weights .entry)) depth acrossZ b node (now (splits .entry)) ⌝ }
+    ensures room { λ _. ⌜ length (now (sums .exit)) ≡ 1024 ⌝ }
 {
     if depth == 0 {
         return;
@@ -71,7 +81,7 @@ pub fn recurse_3d_z(
     if b.layers == 0 {
         return;
     }
-    let median = subgrid::z_cut(weights, g, b, total);
+    let median = subgrid::z_cut(weights, g, b, total, sums);
     let at = median.position;
     let left = median.left;
     splits[node - 1] = subgrid::z_split(b, at);
@@ -83,6 +93,7 @@ pub fn recurse_3d_z(
         2 * node,
         depth - 1,
         splits,
+        sums,
     );
     recurse_3d_x(
         weights,
@@ -92,10 +103,12 @@ pub fn recurse_3d_z(
         2 * node + 1,
         depth - 1,
         splits,
+        sums,
     );
 }
 
-// Writes the splits of `depth` levels below a block of weight `total`, the first across x.
+// Writes the splits of `depth` levels below a block of weight `total`, the first across x;
+// `sums` is the array that the lines' weights are filled into.
 pub fn recurse_3d_x(
     weights: &[u64],
     g: Grid,
@@ -104,10 +117,13 @@ pub fn recurse_3d_x(
     node: usize,
     depth: usize,
     splits: &mut [u32],
+    sums: &mut [u64; 1024],
 )
     requires { ⌜ Sound space g (now weights) b total ⌝ }
     requires { ⌜ Places node depth (length (now splits)) ⌝ }
-    ensures { λ _. ⌜ now (splits .exit) ≡ tree space g (now (weights .entry)) depth acrossX b node (now (splits .entry)) ⌝ }
+    requires { ⌜ length (now sums) ≡ 1024 ⌝ }
+    ensures cuts { λ _. ⌜ now (splits .exit) ≡ tree space g (now (weights .entry)) depth acrossX b node (now (splits .entry)) ⌝ }
+    ensures room { λ _. ⌜ length (now (sums .exit)) ≡ 1024 ⌝ }
 {
     if depth == 0 {
         return;
@@ -115,7 +131,7 @@ pub fn recurse_3d_x(
     if b.width == 0 {
         return;
     }
-    let median = subgrid::x_cut(weights, g, b, total);
+    let median = subgrid::x_cut(weights, g, b, total, sums);
     let at = median.position;
     let left = median.left;
     splits[node - 1] = subgrid::x_split(b, at);
@@ -127,6 +143,7 @@ pub fn recurse_3d_x(
         2 * node,
         depth - 1,
         splits,
+        sums,
     );
     recurse_3d_y(
         weights,
@@ -136,5 +153,6 @@ pub fn recurse_3d_x(
         2 * node + 1,
         depth - 1,
         splits,
+        sums,
     );
 }

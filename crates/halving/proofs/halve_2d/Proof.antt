@@ -7,7 +7,7 @@ use lib.Dec.{lit≤}
 use lib.ListN.{length}
 use borrow.Author.Needs.{needs}
 use Rattle.rules.specs.Halving.{splitsOf, splitsBy}
-use Rattle.halving.specs.SubGrids.{plane, tree}
+use Rattle.cuts.specs.SubGrids.{plane, tree}
 use Rattle.halving.specs.Calls.{halvingOf}
 use Rattle.halving.proofs.Ids.{ids-2d}
 use Rattle.halving.proofs.Whole.{block-whole, sides-fit, whole-lies, whole-sound, ids-long, root-places}
@@ -27,18 +27,18 @@ weight-requires c κs =
 
 recurse-2d-y-requires : tie.Need-recurse-2d-y-requires
 recurse-2d-y-requires c κs =
-    let s = c .before .before .before .before .before .before .before .before .before .before in
+    let s = c .before .before .before .before .before .before .before .before .before .before .before in
     let r = s .pre .0 in (
-      rw (c .before .before .whole .ensures) (whole-sound plane (s .args .g) r (s .pre .1) (rw (c .before .before .whole .ensures) at (c .before .weight .ensures))),
-      root-places plane (s .args .g) r (s .pre .1) (c .before .before .before .before .before .clear .kept .0 ∙ r .splits-long),
+      rw (c .before .before .before .whole .ensures) (whole-sound plane (s .args .g) r (s .pre .1) (rw (c .before .before .before .whole .ensures) at (c .before .before .weight .ensures))),
+      (root-places plane (s .args .g) r (s .pre .1) (c .before .before .before .before .before .before .clear .kept .0 ∙ r .splits-long), refl),
     )
 
 write-ids-requires : tie.Need-write-ids-requires
 write-ids-requires c κs =
-    let s = c .before .before .before .before .before .before .before .before .before .before .before .before .before .before .before in
+    let s = c .before .before .before .before .before .before .before .before .before .before .before .before .before .before .before .before in
     let r = s .pre .0 in
     let f = sides-fit plane (s .args .g) r (s .pre .1) in (
-      root-places plane (s .args .g) r (s .pre .1) (c .before .before .before .before .recurse-2d-y .kept .1 .1 .1 .1 .1 .1 .0 ∙ c .before .before .before .before .before .before .before .before .before .before .clear .kept .0 ∙ r .splits-long),
+      root-places plane (s .args .g) r (s .pre .1) (c .before .before .before .before .recurse-2d-y .kept .1 .1 .1 .1 .1 .1 .0 ∙ c .before .before .before .before .before .before .before .before .before .before .before .clear .kept .0 ∙ r .splits-long),
       (record { few = lit≤ tt; axis = lit≤ tt }, ((f .0 .0, f .1 .0), ids-long plane (s .args .g) (s .pre .0) (s .pre .1) ∙ rw (s .pre .1, mul-one (s .args .g .height)))),
     )
 
@@ -49,16 +49,16 @@ same-length-2 : tie.Need-same-length-2
 same-length-2 c = search needs
 
 -- the splits once all cuts are made
-cuts : (c : tie.After-recurse-2d-y) → let a = c .before .before .before .before .before .before .before .before .before .before .before .args in c .recurse-2d-y .last .1 .1 .1 .1 .1 .1 .0 ≡ splitsBy (halvingOf plane (a .g) (a .depth)) (a .weights .now)
+cuts : (c : tie.After-recurse-2d-y) → let a = c .before .before .before .before .before .before .before .before .before .before .before .before .args in c .recurse-2d-y .last .1 .1 .1 .1 .1 .1 .0 ≡ splitsBy (halvingOf plane (a .g) (a .depth)) (a .weights .now)
 unfolding tree splitsOf
 cuts c =
-    let s = c .before .before .before .before .before .before .before .before .before .before .before in
-    c .recurse-2d-y .ensures
-    ∙ rw (c .before .before .before .before .before .before .clear .ensures, c .before .before .before .whole .ensures, s .pre .0 .splits-long, block-whole plane (s .args .g))
+    let s = c .before .before .before .before .before .before .before .before .before .before .before .before in
+    c .recurse-2d-y .ensures .0
+    ∙ rw (c .before .before .before .before .before .before .before .clear .ensures, c .before .before .before .before .whole .ensures, s .pre .0 .splits-long, block-whole plane (s .args .g))
 
 returns : tie.Need-returns
 returns c =
-    let a = c .before .before .before .before .before .before .before .before .before .before .before .before .before .before .before .before .before .before .args in
+    let a = c .before .before .before .before .before .before .before .before .before .before .before .before .before .before .before .before .before .before .before .args in
     let e = cuts (c .before .before .before .before .before .before .before) in
     (e, c .before .before .write-ids .ensures ∙ rw e (ids-2d _ (a .g .width) (a .g .height) 1 (a .depth) (lit≤ tt)))
 

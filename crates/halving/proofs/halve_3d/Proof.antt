@@ -7,7 +7,7 @@ use lib.Dec.{lit≤}
 use lib.ListN.{length}
 use borrow.Author.Needs.{needs}
 use Rattle.rules.specs.Halving.{splitsOf, splitsBy}
-use Rattle.halving.specs.SubGrids.{space, tree}
+use Rattle.cuts.specs.SubGrids.{space, tree}
 use Rattle.halving.specs.Calls.{halvingOf}
 use Rattle.halving.proofs.Ids.{ids-3d}
 use Rattle.halving.proofs.Whole.{block-whole, sides-fit, whole-lies, whole-sound, ids-long, root-places}
@@ -27,24 +27,24 @@ weight-requires c κs =
 
 recurse-3d-y-requires : tie.Need-recurse-3d-y-requires
 recurse-3d-y-requires c κs =
-    let s = c .before .before .before .before .before .before .before .before .before .before in
+    let s = c .before .before .before .before .before .before .before .before .before .before .before in
     let r = s .pre .0 in (
-      rw (c .before .before .whole .ensures) (whole-sound space (s .args .g) r tt (rw (c .before .before .whole .ensures) at (c .before .weight .ensures))),
-      root-places space (s .args .g) r tt (c .before .before .before .before .before .clear .kept .0 ∙ r .splits-long),
+      rw (c .before .before .before .whole .ensures) (whole-sound space (s .args .g) r tt (rw (c .before .before .before .whole .ensures) at (c .before .before .weight .ensures))),
+      (root-places space (s .args .g) r tt (c .before .before .before .before .before .before .clear .kept .0 ∙ r .splits-long), refl),
     )
 
 mul-write-ids : tie.Need-mul-write-ids
 mul-write-ids c =
-    let s = c .before .before .before .before .before .before .before .before .before .before .before .before .before .before .before .before in
+    let s = c .before .before .before .before .before .before .before .before .before .before .before .before .before .before .before .before .before in
     let f = sides-fit space (s .args .g) (s .pre .0) tt in
     omega (arith, mul-le-mul (f .1 .1) (f .2))
 
 write-ids-requires : tie.Need-write-ids-requires
 write-ids-requires c κs =
-    let s = c .before .before .before .before .before .before .before .before .before .before .before .before .before .before .before .before in
+    let s = c .before .before .before .before .before .before .before .before .before .before .before .before .before .before .before .before .before in
     let r = s .pre .0 in
     let f = sides-fit space (s .args .g) r tt in (
-      root-places space (s .args .g) r tt (c .before .before .before .before .before .recurse-3d-y .kept .1 .1 .1 .1 .1 .1 .0 ∙ c .before .before .before .before .before .before .before .before .before .before .before .clear .kept .0 ∙ r .splits-long),
+      root-places space (s .args .g) r tt (c .before .before .before .before .before .recurse-3d-y .kept .1 .1 .1 .1 .1 .1 .0 ∙ c .before .before .before .before .before .before .before .before .before .before .before .before .clear .kept .0 ∙ r .splits-long),
       (record { few = lit≤ tt; axis = lit≤ tt }, ((f .0 .0, f .1 .0), ids-long space (s .args .g) (s .pre .0) tt)),
     )
 
@@ -55,16 +55,16 @@ same-length-2 : tie.Need-same-length-2
 same-length-2 c = search needs
 
 -- the splits once all cuts are made
-cuts : (c : tie.After-recurse-3d-y) → let a = c .before .before .before .before .before .before .before .before .before .before .before .args in c .recurse-3d-y .last .1 .1 .1 .1 .1 .1 .0 ≡ splitsBy (halvingOf space (a .g) (a .depth)) (a .weights .now)
+cuts : (c : tie.After-recurse-3d-y) → let a = c .before .before .before .before .before .before .before .before .before .before .before .before .args in c .recurse-3d-y .last .1 .1 .1 .1 .1 .1 .0 ≡ splitsBy (halvingOf space (a .g) (a .depth)) (a .weights .now)
 unfolding tree splitsOf
 cuts c =
-    let s = c .before .before .before .before .before .before .before .before .before .before .before in
-    c .recurse-3d-y .ensures
-    ∙ rw (c .before .before .before .before .before .before .clear .ensures, c .before .before .before .whole .ensures, s .pre .0 .splits-long, block-whole space (s .args .g))
+    let s = c .before .before .before .before .before .before .before .before .before .before .before .before in
+    c .recurse-3d-y .ensures .0
+    ∙ rw (c .before .before .before .before .before .before .before .clear .ensures, c .before .before .before .before .whole .ensures, s .pre .0 .splits-long, block-whole space (s .args .g))
 
 returns : tie.Need-returns
 returns c =
-    let a = c .before .before .before .before .before .before .before .before .before .before .before .before .before .before .before .before .before .before .before .args in
+    let a = c .before .before .before .before .before .before .before .before .before .before .before .before .before .before .before .before .before .before .before .before .args in
     let e = cuts (c .before .before .before .before .before .before .before .before) in
     (e, c .before .before .write-ids .ensures ∙ rw e (ids-3d _ (a .g .width) (a .g .height) (a .g .layers) 1 (a .depth)))
 

@@ -5,7 +5,7 @@ use borrow.Author.Needs.{needs}
 use Rattle.rules.specs.Halving.{Halved, halving2, refusalOf}
 use Rattle.halving_laws.proofs.Accepted.{accepted}
 use Rattle.halving_laws.proofs.Answers.{refused, answered}
-use Rattle.halving.specs.declared.subgrid.Grid.{Grid}
+use Rattle.cuts.specs.declared.subgrid.Grid.{Grid}
 use Rattle.halving.proofs.InOrder.{one-layer}
 use Rattle.halving.proofs.rcb_2d.Statement.{statement}
 use Rattle.halving.proofs.rcb_2d.Tie as tie

@@ -5,9 +5,9 @@ use native.Mathlib.Nat.{pos-of-ne-zero}
 use mathlib.Core.Path.{_≡_, _∙_}
 use lib.ListN.{length-set}
 use Rattle.halving_laws.proofs.Steps.{place-here, first-places, second-places, small-node, falls-by}
-use Rattle.halving.specs.SubGrids.{plane, acrossX, acrossY, CutOn}
-use Rattle.halving.proofs.SubGrids.{tree-end, tree-flat, tree-cut}
-use Rattle.halving.proofs.Cuts.{cut-on, left-sound, right-sound, left-at-most, split-fits}
+use Rattle.cuts.specs.SubGrids.{plane, acrossX, acrossY, CutOn}
+use Rattle.cuts.proofs.SubGrids.{tree-end, tree-flat, tree-cut}
+use Rattle.cuts.proofs.Cuts.{cut-on, left-sound, right-sound, left-at-most, split-fits}
 use borrow.Fn.Kinds.{In}
 use borrow.Fn.PlainCycle.{Measures, is, falls, and}
 use Rattle.halving.proofs.plane.recurse_2d_x.Reads as x
@@ -16,34 +16,34 @@ use Rattle.halving.proofs.plane.+recurse_2d_x+recurse_2d_y.Lts-recurse_
 use Rattle.halving.proofs.plane.recurse_2d_y.Reads as y
 use Rattle.halving.proofs.plane.recurse_2d_y.Kinds as y-kinds
 use Rattle.halving.proofs.plane.+recurse_2d_x+recurse_2d_y.Lts-recurse_2d_y as y-lts
-use Rattle.halving.proofs.subgrid.x_cut.Reads as x-cut-reads
-use Rattle.halving.proofs.subgrid.x_left.Reads as x-left-reads
-use Rattle.halving.proofs.subgrid.x_right.Reads as x-right-reads
-use Rattle.halving.proofs.subgrid.x_split.Reads as x-split-reads
-use Rattle.halving.proofs.subgrid.y_cut.Reads as y-cut-reads
-use Rattle.halving.proofs.subgrid.y_left.Reads as y-left-reads
-use Rattle.halving.proofs.subgrid.y_right.Reads as y-right-reads
-use Rattle.halving.proofs.subgrid.y_split.Reads as y-split-reads
+use Rattle.cuts.proofs.subgrid.x_cut.Reads as x-cut-reads
+use Rattle.cuts.proofs.subgrid.x_left.Reads as x-left-reads
+use Rattle.cuts.proofs.subgrid.x_right.Reads as x-right-reads
+use Rattle.cuts.proofs.subgrid.x_split.Reads as x-split-reads
+use Rattle.cuts.proofs.subgrid.y_cut.Reads as y-cut-reads
+use Rattle.cuts.proofs.subgrid.y_left.Reads as y-left-reads
+use Rattle.cuts.proofs.subgrid.y_right.Reads as y-right-reads
+use Rattle.cuts.proofs.subgrid.y_split.Reads as y-split-reads
 use Rattle.halving.proofs.plane.+recurse_2d_x+recurse_2d_y.{statement}
 use Rattle.halving.proofs.plane.+recurse_2d_x+recurse_2d_y.Tie.{close}
 
-abbrev μ-x : Measures 2 x-kinds.ps ℕ
+abbrev μ-x : Measures 3 x-kinds.ps ℕ
 μ-x κs p = p .1 .1 .1 .1 .1 .0
 
-abbrev x-at : ℕ → In 2 x-kinds.ps
-x-at t = and 2 x-kinds.ps (is 2 x-kinds.ps μ-x t) x.Pre
+abbrev x-at : ℕ → In 3 x-kinds.ps
+x-at t = and 3 x-kinds.ps (is 3 x-kinds.ps μ-x t) x.Pre
 
-abbrev x-below : ℕ → In 2 x-kinds.ps
-x-below t = and 2 x-kinds.ps (falls 2 x-kinds.ps _<_ μ-x t) x.Pre
+abbrev x-below : ℕ → In 3 x-kinds.ps
+x-below t = and 3 x-kinds.ps (falls 3 x-kinds.ps _<_ μ-x t) x.Pre
 
-abbrev μ-y : Measures 2 y-kinds.ps ℕ
+abbrev μ-y : Measures 3 y-kinds.ps ℕ
 μ-y κs p = p .1 .1 .1 .1 .1 .0
 
-abbrev y-at : ℕ → In 2 y-kinds.ps
-y-at t = and 2 y-kinds.ps (is 2 y-kinds.ps μ-y t) y.Pre
+abbrev y-at : ℕ → In 3 y-kinds.ps
+y-at t = and 3 y-kinds.ps (is 3 y-kinds.ps μ-y t) y.Pre
 
-abbrev y-below : ℕ → In 2 y-kinds.ps
-y-below t = and 2 y-kinds.ps (falls 2 y-kinds.ps _<_ μ-y t) y.Pre
+abbrev y-below : ℕ → In 3 y-kinds.ps
+y-below t = and 3 y-kinds.ps (falls 3 y-kinds.ps _<_ μ-y t) y.Pre
 
 abbrev x-calls : ℕ → x-lts.Claims
 x-calls t = (
@@ -75,34 +75,34 @@ y-calls t = (
 
 -- Across x.
 
-x-is-cut : (t : ℕ) (c : x-lts.After-x-cut (x-calls t) (x-at t) x.Post) → let p = c .before .before .before .before .before .before .args in CutOn plane (p .g) (p .weights .now) acrossX (p .b) (c .x-cut .result .position) (c .x-cut .result .left)
-x-is-cut t c = cut-on (c .before .before .before .before .before .before .pre .1 .0) acrossX tt (c .x-cut .ensures)
+x-is-cut : (t : ℕ) (c : x-lts.After-x-cut (x-calls t) (x-at t) x.Post) → let p = c .before .before .before .before .before .before .before .args in CutOn plane (p .g) (p .weights .now) acrossX (p .b) (c .x-cut .result .position) (c .x-cut .result .left)
+x-is-cut t c = cut-on (c .before .before .before .before .before .before .before .pre .1 .0) acrossX tt (c .x-cut .ensures .0)
 
-x-small : (t : ℕ) (c : x-lts.After-x-cut (x-calls t) (x-at t) x.Post) → c .before .before .before .before .before .before .args .node ≤ 4095
-x-small t c = small-node _ _ _ (c .before .before .before .if1 .left) (c .before .before .before .before .before .before .pre .1 .1)
+x-small : (t : ℕ) (c : x-lts.After-x-cut (x-calls t) (x-at t) x.Post) → c .before .before .before .before .before .before .before .args .node ≤ 4095
+x-small t c = small-node _ _ _ (c .before .before .before .before .if1 .left) (c .before .before .before .before .before .before .before .pre .1 .1 .0)
 
 x-returns : (t : ℕ) → x-lts.Need-returns (x-calls t) (x-at t) x.Post
-x-returns t c = tree-end _ _ _ _ _ _ _ _ (c .if1 .taken)
+x-returns t c = (tree-end _ _ _ _ _ _ _ _ (c .if1 .taken), c .before .before .before .pre .1 .1 .1)
 
 x-returns-2 : (t : ℕ) → x-lts.Need-returns-2 (x-calls t) (x-at t) x.Post
-x-returns-2 t c = tree-flat _ _ _ _ _ _ _ _ tt (c .if2 .taken)
+x-returns-2 t c = (tree-flat _ _ _ _ _ _ _ _ tt (c .if2 .taken), c .before .before .before .before .before .pre .1 .1 .1)
 
 x-x-cut-requires : (t : ℕ) → x-lts.Need-x-cut-requires (x-calls t) (x-at t) x.Post
 x-x-cut-requires t c κs =
-    let r = c .before .before .before .before .before .pre .1 .0 in
-    (r .lies, (pos-of-ne-zero (c .if2 .left), r .few))
+    let p = c .before .before .before .before .before .before .pre .1 in
+    (p .0 .lies, ((pos-of-ne-zero (c .before .if2 .left), p .0 .few), p .1 .1))
 
 x-x-split-requires : (t : ℕ) → x-lts.Need-x-split-requires (x-calls t) (x-at t) x.Post
-x-x-split-requires t c κs = split-fits (c .before .before .before .before .before .before .pre .1 .0) acrossX tt (x-is-cut t c) .1
+x-x-split-requires t c κs = split-fits (c .before .before .before .before .before .before .before .pre .1 .0) acrossX tt (x-is-cut t c) .1
 
 x-sub-splits : (t : ℕ) → x-lts.Need-sub-splits (x-calls t) (x-at t) x.Post
-x-sub-splits t c = c .before .before .before .before .before .before .before .pre .1 .1 .room .first
+x-sub-splits t c = c .before .before .before .before .before .before .before .before .pre .1 .1 .0 .room .first
 
 x-mul-splits : (t : ℕ) → x-lts.Need-mul-splits (x-calls t) (x-at t) x.Post
 x-mul-splits t c = omega (arith, x-small t (c .before))
 
 x-slice-write-splits : (t : ℕ) → x-lts.Need-slice-write-splits (x-calls t) (x-at t) x.Post
-x-slice-write-splits t c = place-here _ _ _ (c .before .before .before .before .if1 .left) (c .before .before .before .before .before .before .before .pre .1 .1)
+x-slice-write-splits t c = place-here _ _ _ (c .before .before .before .before .before .if1 .left) (c .before .before .before .before .before .before .before .before .pre .1 .1 .0)
 
 x-x-left-requires : (t : ℕ) → x-lts.Need-x-left-requires (x-calls t) (x-at t) x.Post
 x-x-left-requires t c κs = tt
@@ -111,87 +111,91 @@ x-mul-recurse-2d-y : (t : ℕ) → x-lts.Need-mul-recurse-2d-y (x-calls t) (x-at
 x-mul-recurse-2d-y t c = omega (arith, x-small t (c .before .before))
 
 x-sub-recurse-2d-y : (t : ℕ) → x-lts.Need-sub-recurse-2d-y (x-calls t) (x-at t) x.Post
-x-sub-recurse-2d-y t c = pos-of-ne-zero (c .before .before .before .before .before .if1 .left)
+x-sub-recurse-2d-y t c = pos-of-ne-zero (c .before .before .before .before .before .before .if1 .left)
 
 x-recurse-2d-y-requires : (t : ℕ) → x-lts.Need-recurse-2d-y-requires (x-calls t) (x-at t) x.Post
 x-recurse-2d-y-requires t c κs =
-    let s = c .before .before .before .before .before .before .before .before .before in
-    let deeper = c .before .before .before .before .before .before .if1 .left in (
+    let q = c .before .before .before .before in
+    let s = q .before .before .before .before .before .before .before in
+    let deeper = q .before .before .before .before .if1 .left in (
       falls-by deeper (s .pre .0),
       (
-        rw (c .before .x-left .ensures) (left-sound (s .pre .1 .0) acrossX tt (x-is-cut t (c .before .before .before))),
-        rw (length-set (s .args .splits .now)) (first-places (s .pre .1 .1) deeper),
+        rw (c .before .before .x-left .ensures) (left-sound (s .pre .1 .0) acrossX tt (x-is-cut t q)),
+        (rw (length-set (s .args .splits .now)) (first-places (s .pre .1 .1 .0) deeper), q .x-cut .ensures .1),
       ),
     )
 
 x-x-right-requires : (t : ℕ) → x-lts.Need-x-right-requires (x-calls t) (x-at t) x.Post
-x-x-right-requires t c κs = split-fits (c .before .before .before .before .before .before .before .before .before .before .before .before .pre .1 .0) acrossX tt (x-is-cut t (c .before .before .before .before .before .before))
+x-x-right-requires t c κs = split-fits (c .before .before .before .before .before .before .before .before .before .before .before .before .before .before .pre .1 .0) acrossX tt (x-is-cut t (c .before .before .before .before .before .before .before))
 
 x-sub-recurse-2d-y-2 : (t : ℕ) → x-lts.Need-sub-recurse-2d-y-2 (x-calls t) (x-at t) x.Post
-x-sub-recurse-2d-y-2 t c = left-at-most (c .before .before .before .before .before .before .before .before .before .before .before .before .before .pre .1 .0) acrossX tt (x-is-cut t (c .before .before .before .before .before .before .before))
+x-sub-recurse-2d-y-2 t c = left-at-most (c .before .before .before .before .before .before .before .before .before .before .before .before .before .before .before .pre .1 .0) acrossX tt (x-is-cut t (c .before .before .before .before .before .before .before .before))
 
 x-mul-recurse-2d-y-2 : (t : ℕ) → x-lts.Need-mul-recurse-2d-y-2 (x-calls t) (x-at t) x.Post
-x-mul-recurse-2d-y-2 t c = omega (arith, x-small t (c .before .before .before .before .before .before .before))
+x-mul-recurse-2d-y-2 t c = omega (arith, x-small t (c .before .before .before .before .before .before .before .before))
 
 x-add-recurse-2d-y : (t : ℕ) → x-lts.Need-add-recurse-2d-y (x-calls t) (x-at t) x.Post
-x-add-recurse-2d-y t c = omega (arith, x-small t (c .before .before .before .before .before .before .before))
+x-add-recurse-2d-y t c = omega (arith, x-small t (c .before .before .before .before .before .before .before .before))
 
 x-sub-recurse-2d-y-3 : (t : ℕ) → x-lts.Need-sub-recurse-2d-y-3 (x-calls t) (x-at t) x.Post
-x-sub-recurse-2d-y-3 t c = pos-of-ne-zero (c .before .before .before .before .before .before .before .before .before .before .if1 .left)
+x-sub-recurse-2d-y-3 t c = pos-of-ne-zero (c .before .before .before .before .before .before .before .before .before .before .before .before .if1 .left)
 
 x-recurse-2d-y-requires-2 : (t : ℕ) → x-lts.Need-recurse-2d-y-requires-2 (x-calls t) (x-at t) x.Post
 x-recurse-2d-y-requires-2 t c κs =
-    let s = c .before .before .before .before .before .before .before .before .before .before .before .before .before .before in
-    let deeper = c .before .before .before .before .before .before .before .before .before .before .before .if1 .left in (
+    let q = c .before .before .before .before .before .before .before .before .before .before in
+    let s = q .before .before .before .before .before .before .before in
+    let deeper = q .before .before .before .before .if1 .left in
+    let first = c .before .before .before .before .before .recurse-2d-y in (
       falls-by deeper (s .pre .0),
       (
-        rw (c .before .x-right .ensures) (right-sound (s .pre .1 .0) acrossX tt (x-is-cut t (c .before .before .before .before .before .before .before .before))),
-        rw (c .before .before .before .before .recurse-2d-y .kept .1 .1 .1 .1 .1 .1 .0 ∙ length-set (s .args .splits .now) _ _) (second-places (s .pre .1 .1) deeper),
+        rw (c .before .before .x-right .ensures) (right-sound (s .pre .1 .0) acrossX tt (x-is-cut t q)),
+        (rw (first .kept .1 .1 .1 .1 .1 .1 .0 ∙ length-set (s .args .splits .now) _ _) (second-places (s .pre .1 .1 .0) deeper), first .ensures .1),
       ),
     )
 
 x-same-length : (t : ℕ) → x-lts.Need-same-length (x-calls t) (x-at t) x.Post
-x-same-length t c =
-    c .before .before .recurse-2d-y2 .kept .1 .1 .1 .1 .1 .1 .0 ∙ c .before .before .before .before .before .before .before .recurse-2d-y .kept .1 .1 .1 .1 .1 .1 .0
-    ∙ length-set (c .before .before .before .before .before .before .before .before .before .before .before .before .before .before .before .before .before .args .splits .now) _ _
+x-same-length t c = c .before .before .recurse-2d-y2 .kept .1 .1 .1 .1 .1 .1 .0 ∙ c .before .before .before .before .before .before .before .before .recurse-2d-y .kept .1 .1 .1 .1 .1 .1 .0 ∙ length-set (c .before .before .before .before .before .before .before .before .before .before .before .before .before .before .before .before .before .before .before .before .args .splits .now) _ _
 
 x-returns-3 : (t : ℕ) → x-lts.Need-returns-3 (x-calls t) (x-at t) x.Post
 x-returns-3 t c =
-    let q = c .before .before .before .before .before .before .before .before .before .before .before in
-    c .before .before .recurse-2d-y2 .ensures
-    ∙ rw (c .before .before .before .before .before .before .before .recurse-2d-y .ensures, c .before .before .before .before .x-right .ensures, c .before .before .before .before .before .before .before .before .before .x-left .ensures, c .before .before .before .before .before .before .before .before .before .before .x-split .ensures)
-    (tree-cut _ _ _ _ acrossX _ _ _ _ _ tt (q .before .before .before .if1 .left) (q .before .if2 .left) (x-is-cut t q))
+    let q = c .before .before .before .before .before .before .before .before .before .before .before .before .before in
+    let second = c .before .before .recurse-2d-y2 in (
+      second .ensures .0
+          ∙ rw (c .before .before .before .before .before .before .before .before .recurse-2d-y .ensures .0, c .before .before .before .before .before .x-right .ensures, c .before .before .before .before .before .before .before .before .before .before .before .x-left .ensures, c .before .before .before .before .before .before .before .before .before .before .before .before .x-split .ensures)
+          (tree-cut _ _ _ _ acrossX _ _ _ _ _ tt (q .before .before .before .before .if1 .left) (q .before .before .if2 .left) (x-is-cut t q)),
+      second .ensures .1,
+    )
 
 -- Across y.
 
-y-is-cut : (t : ℕ) (c : y-lts.After-y-cut (y-calls t) (y-at t) y.Post) → let p = c .before .before .before .before .before .before .args in CutOn plane (p .g) (p .weights .now) acrossY (p .b) (c .y-cut .result .position) (c .y-cut .result .left)
-y-is-cut t c = cut-on (c .before .before .before .before .before .before .pre .1 .0) acrossY tt (c .y-cut .ensures)
+y-is-cut : (t : ℕ) (c : y-lts.After-y-cut (y-calls t) (y-at t) y.Post) → let p = c .before .before .before .before .before .before .before .args in CutOn plane (p .g) (p .weights .now) acrossY (p .b) (c .y-cut .result .position) (c .y-cut .result .left)
+y-is-cut t c = cut-on (c .before .before .before .before .before .before .before .pre .1 .0) acrossY tt (c .y-cut .ensures .0)
 
-y-small : (t : ℕ) (c : y-lts.After-y-cut (y-calls t) (y-at t) y.Post) → c .before .before .before .before .before .before .args .node ≤ 4095
-y-small t c = small-node _ _ _ (c .before .before .before .if1 .left) (c .before .before .before .before .before .before .pre .1 .1)
+y-small : (t : ℕ) (c : y-lts.After-y-cut (y-calls t) (y-at t) y.Post) → c .before .before .before .before .before .before .before .args .node ≤ 4095
+y-small t c = small-node _ _ _ (c .before .before .before .before .if1 .left) (c .before .before .before .before .before .before .before .pre .1 .1 .0)
 
 y-returns : (t : ℕ) → y-lts.Need-returns (y-calls t) (y-at t) y.Post
-y-returns t c = tree-end _ _ _ _ _ _ _ _ (c .if1 .taken)
+y-returns t c = (tree-end _ _ _ _ _ _ _ _ (c .if1 .taken), c .before .before .before .pre .1 .1 .1)
 
 y-returns-2 : (t : ℕ) → y-lts.Need-returns-2 (y-calls t) (y-at t) y.Post
-y-returns-2 t c = tree-flat _ _ _ _ _ _ _ _ tt (c .if2 .taken)
+y-returns-2 t c = (tree-flat _ _ _ _ _ _ _ _ tt (c .if2 .taken), c .before .before .before .before .before .pre .1 .1 .1)
 
 y-y-cut-requires : (t : ℕ) → y-lts.Need-y-cut-requires (y-calls t) (y-at t) y.Post
 y-y-cut-requires t c κs =
-    let r = c .before .before .before .before .before .pre .1 .0 in
-    (r .lies, (pos-of-ne-zero (c .if2 .left), r .few))
+    let p = c .before .before .before .before .before .before .pre .1 in
+    (p .0 .lies, ((pos-of-ne-zero (c .before .if2 .left), p .0 .few), p .1 .1))
 
 y-y-split-requires : (t : ℕ) → y-lts.Need-y-split-requires (y-calls t) (y-at t) y.Post
-y-y-split-requires t c κs = split-fits (c .before .before .before .before .before .before .pre .1 .0) acrossY tt (y-is-cut t c) .1
+y-y-split-requires t c κs = split-fits (c .before .before .before .before .before .before .before .pre .1 .0) acrossY tt (y-is-cut t c) .1
 
 y-sub-splits : (t : ℕ) → y-lts.Need-sub-splits (y-calls t) (y-at t) y.Post
-y-sub-splits t c = c .before .before .before .before .before .before .before .pre .1 .1 .room .first
+y-sub-splits t c = c .before .before .before .before .before .before .before .before .pre .1 .1 .0 .room .first
 
 y-mul-splits : (t : ℕ) → y-lts.Need-mul-splits (y-calls t) (y-at t) y.Post
 y-mul-splits t c = omega (arith, y-small t (c .before))
 
 y-slice-write-splits : (t : ℕ) → y-lts.Need-slice-write-splits (y-calls t) (y-at t) y.Post
-y-slice-write-splits t c = place-here _ _ _ (c .before .before .before .before .if1 .left) (c .before .before .before .before .before .before .before .pre .1 .1)
+y-slice-write-splits t c = place-here _ _ _ (c .before .before .before .before .before .if1 .left) (c .before .before .before .before .before .before .before .before .pre .1 .1 .0)
 
 y-y-left-requires : (t : ℕ) → y-lts.Need-y-left-requires (y-calls t) (y-at t) y.Post
 y-y-left-requires t c κs = tt
@@ -200,56 +204,60 @@ y-mul-recurse-2d-x : (t : ℕ) → y-lts.Need-mul-recurse-2d-x (y-calls t) (y-at
 y-mul-recurse-2d-x t c = omega (arith, y-small t (c .before .before))
 
 y-sub-recurse-2d-x : (t : ℕ) → y-lts.Need-sub-recurse-2d-x (y-calls t) (y-at t) y.Post
-y-sub-recurse-2d-x t c = pos-of-ne-zero (c .before .before .before .before .before .if1 .left)
+y-sub-recurse-2d-x t c = pos-of-ne-zero (c .before .before .before .before .before .before .if1 .left)
 
 y-recurse-2d-x-requires : (t : ℕ) → y-lts.Need-recurse-2d-x-requires (y-calls t) (y-at t) y.Post
 y-recurse-2d-x-requires t c κs =
-    let s = c .before .before .before .before .before .before .before .before .before in
-    let deeper = c .before .before .before .before .before .before .if1 .left in (
+    let q = c .before .before .before .before in
+    let s = q .before .before .before .before .before .before .before in
+    let deeper = q .before .before .before .before .if1 .left in (
       falls-by deeper (s .pre .0),
       (
-        rw (c .before .y-left .ensures) (left-sound (s .pre .1 .0) acrossY tt (y-is-cut t (c .before .before .before))),
-        rw (length-set (s .args .splits .now)) (first-places (s .pre .1 .1) deeper),
+        rw (c .before .before .y-left .ensures) (left-sound (s .pre .1 .0) acrossY tt (y-is-cut t q)),
+        (rw (length-set (s .args .splits .now)) (first-places (s .pre .1 .1 .0) deeper), q .y-cut .ensures .1),
       ),
     )
 
 y-y-right-requires : (t : ℕ) → y-lts.Need-y-right-requires (y-calls t) (y-at t) y.Post
-y-y-right-requires t c κs = split-fits (c .before .before .before .before .before .before .before .before .before .before .before .before .pre .1 .0) acrossY tt (y-is-cut t (c .before .before .before .before .before .before))
+y-y-right-requires t c κs = split-fits (c .before .before .before .before .before .before .before .before .before .before .before .before .before .before .pre .1 .0) acrossY tt (y-is-cut t (c .before .before .before .before .before .before .before))
 
 y-sub-recurse-2d-x-2 : (t : ℕ) → y-lts.Need-sub-recurse-2d-x-2 (y-calls t) (y-at t) y.Post
-y-sub-recurse-2d-x-2 t c = left-at-most (c .before .before .before .before .before .before .before .before .before .before .before .before .before .pre .1 .0) acrossY tt (y-is-cut t (c .before .before .before .before .before .before .before))
+y-sub-recurse-2d-x-2 t c = left-at-most (c .before .before .before .before .before .before .before .before .before .before .before .before .before .before .before .pre .1 .0) acrossY tt (y-is-cut t (c .before .before .before .before .before .before .before .before))
 
 y-mul-recurse-2d-x-2 : (t : ℕ) → y-lts.Need-mul-recurse-2d-x-2 (y-calls t) (y-at t) y.Post
-y-mul-recurse-2d-x-2 t c = omega (arith, y-small t (c .before .before .before .before .before .before .before))
+y-mul-recurse-2d-x-2 t c = omega (arith, y-small t (c .before .before .before .before .before .before .before .before))
 
 y-add-recurse-2d-x : (t : ℕ) → y-lts.Need-add-recurse-2d-x (y-calls t) (y-at t) y.Post
-y-add-recurse-2d-x t c = omega (arith, y-small t (c .before .before .before .before .before .before .before))
+y-add-recurse-2d-x t c = omega (arith, y-small t (c .before .before .before .before .before .before .before .before))
 
 y-sub-recurse-2d-x-3 : (t : ℕ) → y-lts.Need-sub-recurse-2d-x-3 (y-calls t) (y-at t) y.Post
-y-sub-recurse-2d-x-3 t c = pos-of-ne-zero (c .before .before .before .before .before .before .before .before .before .before .if1 .left)
+y-sub-recurse-2d-x-3 t c = pos-of-ne-zero (c .before .before .before .before .before .before .before .before .before .before .before .before .if1 .left)
 
 y-recurse-2d-x-requires-2 : (t : ℕ) → y-lts.Need-recurse-2d-x-requires-2 (y-calls t) (y-at t) y.Post
 y-recurse-2d-x-requires-2 t c κs =
-    let s = c .before .before .before .before .before .before .before .before .before .before .before .before .before .before in
-    let deeper = c .before .before .before .before .before .before .before .before .before .before .before .if1 .left in (
+    let q = c .before .before .before .before .before .before .before .before .before .before in
+    let s = q .before .before .before .before .before .before .before in
+    let deeper = q .before .before .before .before .if1 .left in
+    let first = c .before .before .before .before .before .recurse-2d-x in (
       falls-by deeper (s .pre .0),
       (
-        rw (c .before .y-right .ensures) (right-sound (s .pre .1 .0) acrossY tt (y-is-cut t (c .before .before .before .before .before .before .before .before))),
-        rw (c .before .before .before .before .recurse-2d-x .kept .1 .1 .1 .1 .1 .1 .0 ∙ length-set (s .args .splits .now) _ _) (second-places (s .pre .1 .1) deeper),
+        rw (c .before .before .y-right .ensures) (right-sound (s .pre .1 .0) acrossY tt (y-is-cut t q)),
+        (rw (first .kept .1 .1 .1 .1 .1 .1 .0 ∙ length-set (s .args .splits .now) _ _) (second-places (s .pre .1 .1 .0) deeper), first .ensures .1),
       ),
     )
 
 y-same-length : (t : ℕ) → y-lts.Need-same-length (y-calls t) (y-at t) y.Post
-y-same-length t c =
-    c .before .before .recurse-2d-x2 .kept .1 .1 .1 .1 .1 .1 .0 ∙ c .before .before .before .before .before .before .before .recurse-2d-x .kept .1 .1 .1 .1 .1 .1 .0
-    ∙ length-set (c .before .before .before .before .before .before .before .before .before .before .before .before .before .before .before .before .before .args .splits .now) _ _
+y-same-length t c = c .before .before .recurse-2d-x2 .kept .1 .1 .1 .1 .1 .1 .0 ∙ c .before .before .before .before .before .before .before .before .recurse-2d-x .kept .1 .1 .1 .1 .1 .1 .0 ∙ length-set (c .before .before .before .before .before .before .before .before .before .before .before .before .before .before .before .before .before .before .before .before .args .splits .now) _ _
 
 y-returns-3 : (t : ℕ) → y-lts.Need-returns-3 (y-calls t) (y-at t) y.Post
 y-returns-3 t c =
-    let q = c .before .before .before .before .before .before .before .before .before .before .before in
-    c .before .before .recurse-2d-x2 .ensures
-    ∙ rw (c .before .before .before .before .before .before .before .recurse-2d-x .ensures, c .before .before .before .before .y-right .ensures, c .before .before .before .before .before .before .before .before .before .y-left .ensures, c .before .before .before .before .before .before .before .before .before .before .y-split .ensures)
-    (tree-cut _ _ _ _ acrossY _ _ _ _ _ tt (q .before .before .before .if1 .left) (q .before .if2 .left) (y-is-cut t q))
+    let q = c .before .before .before .before .before .before .before .before .before .before .before .before .before in
+    let second = c .before .before .recurse-2d-x2 in (
+      second .ensures .0
+          ∙ rw (c .before .before .before .before .before .before .before .before .recurse-2d-x .ensures .0, c .before .before .before .before .before .y-right .ensures, c .before .before .before .before .before .before .before .before .before .before .before .y-left .ensures, c .before .before .before .before .before .before .before .before .before .before .before .before .y-split .ensures)
+          (tree-cut _ _ _ _ acrossY _ _ _ _ _ tt (q .before .before .before .before .if1 .left) (q .before .before .if2 .left) (y-is-cut t q)),
+      second .ensures .1,
+    )
 
 pub +recurse-2d-x+recurse-2d-y-spec : {M : Type 1} → statement M
 +recurse-2d-x+recurse-2d-y-spec =

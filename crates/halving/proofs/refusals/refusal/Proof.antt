@@ -10,7 +10,7 @@ use lib.ListN.{length}
 use borrow.Author.Needs.{needs}
 use Rattle.rules.specs.Refusals.{sidesUnfit, gridLengthsOff}
 use Rattle.halving_laws.proofs.Accepted.{sides-fit}
-use Rattle.halving.specs.SubGrids.{space, sidesOf}
+use Rattle.cuts.specs.SubGrids.{space, sidesOf}
 use Rattle.halving.proofs.InOrder.{cells-are, refused-sides, refused-depth, refused-lengths, refused-weight, not-refused}
 use Rattle.halving.proofs.refusals.refusal.Statement.{statement}
 use Rattle.halving.proofs.refusals.refusal.Tie as tie

@@ -1,0 +1,4 @@
+pub mod Bounds
+pub mod SubGrids
+pub mod Solids
+pub mod Cuts

@@ -1,0 +1,22 @@
+use mathlib.Core.Path.{_≡_, refl, ap, _∙_}
+use borrow.Author.Needs.{needs}
+use lib.Ieee.{ofInt, div, mul, add}
+use Rattle.rules.specs.Halving.{one, two, half, hundredth, hiOf}
+use Rattle.halving_laws.proofs.LoHi.{hi-drops}
+use Rattle.cuts.proofs.median.max_part_weight.Statement.{statement}
+use Rattle.cuts.proofs.median.max_part_weight.Tie as tie
+
+nearest-u64-to-f64-requires : tie.Need-nearest-u64-to-f64-requires
+nearest-u64-to-f64-requires c κs = search needs
+
+truncating-f64-to-u64-requires : tie.Need-truncating-f64-to-u64-requires
+unfolding half one two hundredth
+truncating-f64-to-u64-requires c κs = rw (c .nearest-u64-to-f64 .ensures) (hi-drops (c .before .args .total) (c .before .pre))
+
+returns : tie.Need-returns
+unfolding hiOf half one two hundredth
+returns c = c .truncating-f64-to-u64 .ensures ∙ rw (c .before .nearest-u64-to-f64 .ensures)
+
+pub max-part-weight-spec : {M : Type 1} → statement M
+max-part-weight-spec =
+    tie.close (tie.spec nearest-u64-to-f64-requires truncating-f64-to-u64-requires returns)

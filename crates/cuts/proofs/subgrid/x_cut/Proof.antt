@@ -1,0 +1,34 @@
+-- `x_cut` meets its contract: the lines that it sums are the slabs of the block, and the median of their sums is their cut.
+use mathlib.Core.Path.{_≡_}
+use Rattle.cuts.specs.SubGrids.{acrossX}
+use Rattle.cuts.proofs.Solids.{corner-fits, layer-fits, side-fits, lines-fit, lines-light, cut-of-sums}
+use Rattle.cuts.proofs.subgrid.x_cut.Statement.{statement}
+use Rattle.cuts.proofs.subgrid.x_cut.Tie as tie
+
+corner-requires : tie.Need-corner-requires
+corner-requires c κs = corner-fits (c .before .pre .0)
+
+layer-requires : tie.Need-layer-requires
+layer-requires c κs = layer-fits (c .before .before .pre .0)
+
+line-sums-requires : tie.Need-line-sums-requires
+line-sums-requires c κs =
+    let p = c .before .before .before .before .pre in
+    (p .0 .readable .light, (rw (c .before .before .corner .ensures, c .before .layer .ensures) (lines-fit (p .0) acrossX), p .1 .1))
+
+weighted-median-requires : tie.Need-weighted-median-requires
+weighted-median-requires c κs =
+    let s = c .before .before .before .before .before .before in
+    let sums = rw (c .before .before .before .before .corner .ensures, c .before .before .before .layer .ensures) at (c .before .line-sums .ensures .1) in
+    ((s .pre .1 .0 .0, side-fits (s .pre .0) acrossX), (lines-light (s .pre .0) acrossX _ sums, s .pre .1 .0 .1))
+
+returns : tie.Need-returns
+returns c = (
+  cut-of-sums _ _ acrossX _ _
+      (rw (c .before .before .before .before .before .corner .ensures, c .before .before .before .before .layer .ensures) at (c .before .before .line-sums .ensures .1))
+      (c .weighted-median .ensures),
+  c .before .before .line-sums .ensures .0,
+)
+
+pub x-cut-spec : {M : Type 1} → statement M
+x-cut-spec = tie.close (tie.spec corner-requires layer-requires line-sums-requires weighted-median-requires returns)
