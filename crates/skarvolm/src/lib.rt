@@ -9,6 +9,7 @@ ghost use lib.ListN.{getD};
 ghost use Rattle.rules.specs.Refusals.{readCoded, readCell2, readCell3, readCell};
 ghost use Rattle.rules.specs.Curve.{depositOf, encode2, encode3, decode2, decode3};
 ghost use Rattle.rules.specs.Axis.{makeAxis};
+ghost use Rattle.rules.specs.Knots.{indexAll2, indexAll3};
 ghost use Rattle.rules.specs.Halving.{halving2, halving3, halve};
 ghost use Rattle.skarvolm.specs.Cells.{cellFrom};
 use rules::AxisAnswer;
@@ -146,6 +147,30 @@ pub extern "C" fn skarvolm_cell(low: f64, high: f64, order: u32, value: f64, cel
             number
         }
     }
+}
+
+// The indices of all points.
+#[no_mangle]
+pub extern "C" fn skarvolm_index_2d(xs: &[f64], ys: &[f64], order: u32, indices: &mut [u64]) -> u32
+    ensures number { λ r. ⌜ r ≡ indexAll2 (now (xs .entry)) (now (ys .entry)) order (now (indices .entry)) .number ⌝ }
+    ensures filed { λ _. ⌜ now (indices .exit) ≡ indexAll2 (now (xs .entry)) (now (ys .entry)) order (now (indices .entry)) .indices ⌝ }
+{
+    knots::index_2d(xs, ys, order, indices)
+}
+
+// The indices of all points in 3D.
+#[no_mangle]
+pub extern "C" fn skarvolm_index_3d(
+    xs: &[f64],
+    ys: &[f64],
+    zs: &[f64],
+    order: u32,
+    indices: &mut [u64],
+) -> u32
+    ensures number { λ r. ⌜ r ≡ indexAll3 (now (xs .entry)) (now (ys .entry)) (now (zs .entry)) order (now (indices .entry)) .number ⌝ }
+    ensures filed { λ _. ⌜ now (indices .exit) ≡ indexAll3 (now (xs .entry)) (now (ys .entry)) (now (zs .entry)) order (now (indices .entry)) .indices ⌝ }
+{
+    knots::index_3d(xs, ys, zs, order, indices)
 }
 
 // The splits and ids of a halved grid.
