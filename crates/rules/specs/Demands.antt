@@ -1,11 +1,14 @@
 -- The demands, as statements. Assumes nothing.
-use Prim.Native.Nat.{ℕ, _+_, _*_, _^_, _≤_, _<_}
+use Prim.Native.Nat.{ℕ, zero, suc, _+_, _*_, _^_, _≤_, _<_}
 use mathlib.Core.Path.{_≡_}
-use mathlib.Core.List.{List}
-use lib.ListN.{getD}
+use mathlib.Core.Bool.{Bool, true, false}
+use mathlib.Core.List.{List, [], _∷_}
+use lib.ListN.{getD, length}
 use lib.Dec.{eqb}
-use Rattle.rules.specs.Sums.{total, sumWhere}
+use lib.Ieee.{Float}
+use Rattle.rules.specs.Sums.{any, total, sumWhere}
 use Rattle.rules.specs.Grid.{cells, allWeight, heaviestLine}
+use Rattle.rules.specs.Refusals.{top2, orderOver, coordinateOver, indexOver, noPoints, lengthsOff, gridLengthsOff, valueUnfit, axisThin, reversed, outside, sidesUnfit, depthOver, weightOver}
 use Rattle.rules.specs.Curve.{encode2, encode3, decode2, decode3}
 use Rattle.rules.specs.Halving.{Halving, halving2, halving3, refusalOf, halve}
 use Rattle.rules.specs.declared.Coded.the-variants.{Index}
@@ -13,6 +16,68 @@ use Rattle.rules.specs.declared.Cell2.the-variants as flat
 use Rattle.rules.specs.declared.Cell3.the-variants as solid
 use Rattle.rules.specs.declared.Halving2.{Halving2}
 use Rattle.rules.specs.declared.Halving3.{Halving3}
+
+-- DEMAND 1: a refusal is given exactly when 01 says so
+
+-- a test and its number
+pub record Test : Type 0 where
+  pub passes : Bool
+  pub number : ℕ
+
+abbrev pub test : Bool → ℕ → Test
+test b n = record { passes = b; number = n }
+
+-- of tests in order: test i is the first that passes, and none passes
+abbrev pub FirstIs : List Test → ℕ → Type 0
+FirstIs [] i = ⊥
+FirstIs (t ∷ ts) zero = t .passes ≡ true
+FirstIs (t ∷ ts) (suc i) = (t .passes ≡ false) × FirstIs ts i
+
+abbrev pub NonePasses : List Test → Type 0
+NonePasses [] = Unit {0}
+NonePasses (t ∷ ts) = (t .passes ≡ false) × NonePasses ts
+
+-- the number of test i
+abbrev pub numberAt : List Test → ℕ → ℕ
+numberAt [] i = 0
+numberAt (t ∷ ts) zero = t .number
+numberAt (t ∷ ts) (suc i) = numberAt ts i
+
+-- both ways: the first test that passes gives its number, and where none passes the number is 0; a number other than 0 is that of the
+-- first test that passes, and where it is 0 none passes
+pub record Exactly (tests : List Test) (number : ℕ) : Type 0 where
+  pub first : (i : ℕ) → FirstIs tests i → number ≡ numberAt tests i
+  pub none : NonePasses tests → number ≡ 0
+  pub refused : 0 < number → (i : ℕ) × FirstIs tests i × (number ≡ numberAt tests i)
+  pub answered : number ≡ 0 → NonePasses tests
+
+-- the order of tests of each call
+abbrev pub encodeTests : ℕ → ℕ → List ℕ → List Test
+encodeTests most order xs = test (orderOver most order) 1 ∷ test (coordinateOver order xs) 2 ∷ []
+
+abbrev pub decodeTests : ℕ → ℕ → ℕ → ℕ → List Test
+decodeTests d most order index = test (orderOver most order) 1 ∷ test (indexOver d order index) 3 ∷ []
+
+abbrev pub axisTests : Float → Float → ℕ → List Test
+axisTests low high order =
+    test (orderOver top2 order) 1
+    ∷ test (any valueUnfit (low ∷ high ∷ [])) 6
+    ∷ test (reversed low high) 8
+    ∷ test (axisThin low high) 7 ∷ []
+
+abbrev pub cellTests : Bool → Float → Float → Float → List Test
+cellTests madeUp low high value = test madeUp 8 ∷ test (valueUnfit value) 6 ∷ test (outside low high value) 8 ∷ []
+
+abbrev pub indexTests : ℕ → ℕ → ℕ → List ℕ → Bool → Bool → List Test
+indexTests most order n lengths unfit thin =
+    test (orderOver most order) 1 ∷ test (noPoints n) 4 ∷ test (lengthsOff n lengths) 5 ∷ test unfit 6 ∷ test thin 7 ∷ []
+
+abbrev pub halvingTests : Halving → List ℕ → List ℕ → List ℕ → List Test
+halvingTests h ws splits ids =
+    test (sidesUnfit (h .sides)) 9
+    ∷ test (depthOver (h .depth)) 10
+    ∷ test (gridLengthsOff (h .sides) (h .depth) (length ws) (length ids) (length splits)) 5
+    ∷ test (weightOver ws) 11 ∷ []
 
 -- DEMAND 2: decode after encode gives the cell, encode after decode the index
 
