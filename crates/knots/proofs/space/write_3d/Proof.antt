@@ -1,4 +1,4 @@
--- `knots::write_3d` meets its contract. The invariant: the slice is the indices of the points before i, and then what it was. No point is refused,
+-- `space::write_3d` meets its contract. The invariant: the slice is the indices of the points before i, and then what it was. No point is refused,
 -- since each axis accepts it and its cells lie below 2^order. Assumes nothing.
 use mathlib.Core.Path.{_≡_, refl, sym, ap, _∙_}
 use mathlib.Core.List.{List}
@@ -14,8 +14,8 @@ use Rattle.rules.specs.declared.Coded.the-variants as coded
 use Rattle.curve_laws.proofs.Refusals.{encode3-index}
 use Rattle.knots.proofs.Filled.{filled, filled-length, filled-whole, filled-more}
 use Rattle.knots.proofs.Points.{point-accepted, point-cell, point-below}
-use Rattle.knots.proofs.write_3d.Statement.{statement}
-use Rattle.knots.proofs.write_3d.Tie as tie
+use Rattle.knots.proofs.space.write_3d.Statement.{statement}
+use Rattle.knots.proofs.space.write_3d.Tie as tie
 
 -- the index of point i
 abbrev index : List Float → List Float → List Float → ℕ → ℕ → ℕ

@@ -1,7 +1,7 @@
--- `knots::axis_over` meets its contract: it makes the axis of the extent's ends. Assumes nothing.
+-- `boxes::axis_over` meets its contract: it makes the axis of the extent's ends. Assumes nothing.
 use borrow.Author.Needs.{needs}
-use Rattle.knots.proofs.axis_over.Statement.{statement}
-use Rattle.knots.proofs.axis_over.Tie as tie
+use Rattle.knots.proofs.boxes.axis_over.Statement.{statement}
+use Rattle.knots.proofs.boxes.axis_over.Tie as tie
 
 extent-of-requires : tie.Need-extent-of-requires
 extent-of-requires c κs = search needs

@@ -1,4 +1,4 @@
--- `knots::index_3d` meets its contract: it makes the tests in the rule's order, so each return knows the ones before it; fit points refuse an axis
+-- `space::index_3d` meets its contract: it makes the tests in the rule's order, so each return knows the ones before it; fit points refuse an axis
 -- only for being thin. Assumes nothing.
 use mathlib.Core.Path.{_≡_, refl, sym, _∙_}
 use mathlib.Core.Bool.{Bool, true, false}
@@ -15,8 +15,8 @@ use Rattle.rules.specs.Knots.{someUnfit, someThin}
 use Rattle.knots.proofs.Axes.{is-thin, thin-number, over}
 use Rattle.knots.proofs.Filed.{number3, refused3, answered3}
 use Rattle.knots.specs.Over.{Over}
-use Rattle.knots.proofs.index_3d.Statement.{statement}
-use Rattle.knots.proofs.index_3d.Tie as tie
+use Rattle.knots.proofs.space.index_3d.Statement.{statement}
+use Rattle.knots.proofs.space.index_3d.Tie as tie
 
 returns : tie.Need-returns
 unfolding refuseIndexAll

@@ -1,4 +1,4 @@
--- `knots::any_unfit` meets its contract. The invariant: whether some value is unfit is whether one from i on is. Assumes nothing.
+-- `boxes::any_unfit` meets its contract. The invariant: whether some value is unfit is whether one from i on is. Assumes nothing.
 use mathlib.Core.Path.{_≡_, refl, sym, ap, _∙_}
 use mathlib.Core.Bool.{Bool, true, false, _||_}
 use mathlib.Core.List.{List, [], _∷_}
@@ -11,8 +11,8 @@ use lib.Seq.{drop-cons, drop-length}
 use lib.Ieee.{Float, nan}
 use Rattle.rules.specs.Sums.{any}
 use Rattle.rules.specs.Refusals.{valueUnfit}
-use Rattle.knots.proofs.any_unfit.Statement.{statement}
-use Rattle.knots.proofs.any_unfit.Tie as tie
+use Rattle.knots.proofs.boxes.any_unfit.Statement.{statement}
+use Rattle.knots.proofs.boxes.any_unfit.Tie as tie
 
 abbrev Inv-loop : tie.InvT-loop
 Inv-loop xs i₀ i = (i ≤ length xs) × (any valueUnfit (drop i xs) ≡ any valueUnfit xs)

@@ -1,4 +1,4 @@
--- `knots::index_2d` meets its contract: it makes the tests in the rule's order, so each return knows the ones before it; fit points refuse an axis
+-- `plane::index_2d` meets its contract: it makes the tests in the rule's order, so each return knows the ones before it; fit points refuse an axis
 -- only for being thin. Assumes nothing.
 use mathlib.Core.Path.{_≡_, refl, sym, _∙_}
 use mathlib.Core.Bool.{Bool, true, false}
@@ -14,8 +14,8 @@ use Rattle.rules.specs.Knots.{someUnfit, someThin}
 use Rattle.knots.proofs.Axes.{is-thin, thin-number, over}
 use Rattle.knots.proofs.Filed.{number2, refused2, answered2}
 use Rattle.knots.specs.Over.{Over}
-use Rattle.knots.proofs.index_2d.Statement.{statement}
-use Rattle.knots.proofs.index_2d.Tie as tie
+use Rattle.knots.proofs.plane.index_2d.Statement.{statement}
+use Rattle.knots.proofs.plane.index_2d.Tie as tie
 
 returns : tie.Need-returns
 unfolding refuseIndexAll
