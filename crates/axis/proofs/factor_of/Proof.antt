@@ -1,7 +1,7 @@
 -- `axis::factor_of` meets its contract. The loop's invariant: the descent from f is the descent from the start. Its measure is f's bit pattern.
 -- Assumes nothing.
 use mathlib.Core.Path.{_≡_, refl, sym, ap, _∙_, subst}
-use mathlib.Core.Bool.{Bool, true, false}
+use mathlib.Core.Bool.{Bool}
 use Prim.Native.Nat.{ℕ, _≤_, _<_, _-_, _*_, _%_, _^_}
 use native.Mathlib.Nat.{mod-eq-of-lt, lt-of-le-of-lt, one-mul}
 use native.Mathlib.Omega.{arith}
@@ -12,7 +12,7 @@ use lib.Ieee.{Float, binary64, fits, toBits, div, ofInt}
 use lib.Ieee.Positive.{positive}
 use borrow.Author.Needs.{needs}
 use Rattle.rules.specs.Refusals.{width}
-use Rattle.rules.specs.Axis.{descend, descendFrom, factorOf, cellCount}
+use Rattle.rules.specs.Axis.{descend, descendFrom, factorOf}
 use Rattle.axis_laws.proofs.StepPattern.{last}
 use Rattle.axis_laws.proofs.Width.{cells-positive}
 use Rattle.axis_laws.proofs.Descent.{again, next-fits, next-pattern, descend-stop, descend-step, start-fits, start-pattern}

@@ -1,7 +1,7 @@
 -- `plane::index_2d` meets its contract: it makes the tests in the rule's order, so each return knows the ones before it; fit points refuse an axis
 -- only for being thin. Assumes nothing.
 use mathlib.Core.Path.{_≡_, refl, sym, _∙_}
-use mathlib.Core.Bool.{Bool, true, false}
+use mathlib.Core.Bool.{Bool, false}
 use mathlib.Core.List.{[], _∷_}
 use Prim.Native.Nat.{_<_}
 use borrow.Author.Needs.{needs}
@@ -16,6 +16,17 @@ use Rattle.knots.proofs.Filed.{number2, refused2, answered2}
 use Rattle.knots.specs.Over.{Over}
 use Rattle.knots.proofs.plane.index_2d.Statement.{statement}
 use Rattle.knots.proofs.plane.index_2d.Tie as tie
+
+-- where the call began, from the places after its tests of the lengths and of the values
+abbrev after-lengths : tie.Else4 → tie.Start
+after-lengths c = c .before .before .before .before .before .before .before
+
+abbrev after-values : tie.Else6 → tie.Start
+after-values c = after-lengths (c .before .before .before .before)
+
+-- the place where the axis of xs was made, from that of ys
+abbrev x-place : tie.After-y-answer → tie.After-x-answer
+x-place c = c .before .before .before .before
 
 returns : tie.Need-returns
 unfolding refuseIndexAll
@@ -49,7 +60,7 @@ any-unfit-requires c κs = search needs
 
 -- 1, 4 and 5 are passed
 lengths-fit : (c : tie.Else4) (unfit thin : Bool)
-    → let a = c .before .before .before .before .before .before .before .args in
+    → let a = after-lengths c .args in
     number2 (a .xs .now) (a .ys .now) (a .order) (a .indices .now) unfit thin ≡ refuse unfit 6 (refuse thin 7 0)
 unfolding refuseIndexAll any
 lengths-fit c unfit thin =
@@ -63,7 +74,7 @@ returns-5 c = refused2 _ _ _ _ 5 _ refl (lengths-fit (c .before .before) _ _ ∙
 any-unfit-requires-2 : tie.Need-any-unfit-requires-2
 any-unfit-requires-2 c κs = search needs
 
-x-fit : (c : tie.Else5) → any valueUnfit (c .before .before .before .before .before .before .before .before .before .args .xs .now) ≡ false
+x-fit : (c : tie.Else5) → any valueUnfit (after-lengths (c .before .before) .args .xs .now) ≡ false
 x-fit c = sym (c .before .any-unfit .ensures) ∙ c .if5 .left
 
 returns-6 : tie.Need-returns-6
@@ -72,7 +83,7 @@ returns-6 c =
     let fifth = c .before .before in
     refused2 _ _ _ _ 5 _ refl (lengths-fit (fifth .before .before) _ _ ∙ rw (x-fit fifth, sym (c .before .any-unfit2 .ensures) ∙ c .if6 .taken))
 
-y-fit : (c : tie.Else6) → any valueUnfit (c .before .before .before .before .before .before .before .before .before .before .before .args .ys .now) ≡ false
+y-fit : (c : tie.Else6) → any valueUnfit (after-values c .args .ys .now) ≡ false
 y-fit c = sym (c .before .any-unfit2 .ensures) ∙ c .if6 .left
 
 axis-over-requires : tie.Need-axis-over-requires
@@ -89,7 +100,7 @@ number-of-requires c κs = search needs
 
 -- 6 is passed too
 values-fit : (c : tie.Else6) (thin : Bool)
-    → let a = c .before .before .before .before .before .before .before .before .before .before .before .args in
+    → let a = after-values c .args in
     number2 (a .xs .now) (a .ys .now) (a .order) (a .indices .now) (someUnfit (a .xs .now ∷ a .ys .now ∷ [])) thin ≡ refuse thin 7 0
 unfolding any someUnfit
 values-fit c thin =
@@ -121,7 +132,7 @@ number-of-requires-2 c κs = search needs
 
 -- the axis of xs is made over them
 x-over : (c : tie.After-x-answer)
-    → let a = c .before .before .before .before .before .before .before .before .before .before .before .before .before .before .args in
+    → let a = after-values (c .before .before .before) .args in
     Over (a .xs .now) (length (a .xs .now)) (a .order) (c .x-answer .given .0 .0)
 x-over c =
     let made = c .before .before in
@@ -144,7 +155,7 @@ returns-8 c =
 
 -- and that of ys over ys
 y-over : (c : tie.After-y-answer)
-    → let a = c .before .before .before .before .before .before .before .before .before .before .before .before .before .before .before .before .before .before .args in
+    → let a = after-values (x-place c .before .before .before) .args in
     Over (a .ys .now) (length (a .xs .now)) (a .order) (c .y-answer .given .0 .0)
 y-over c =
     let made = c .before .before in
@@ -156,7 +167,7 @@ y-over c =
 write-2d-requires : tie.Need-write-2d-requires
 write-2d-requires c κs =
     let second-axis = c .before .before in
-    let first-axis = second-axis .before .before .before .before in
+    let first-axis = x-place second-axis in
     let fourth = first-axis .before .before .before .before .before .before .before in
     let second = fourth .before .before in
     ((points second, second .before .if1 .left), (x-over first-axis, (y-over second-axis, fourth .if4 .left)))
@@ -169,7 +180,7 @@ unfolding any someThin
 returns-9 c =
     let written = c .before .before in
     let second-axis = written .before .before .before in
-    let first-axis = second-axis .before .before .before .before in
+    let first-axis = x-place second-axis in
     answered2 _ _ _ _ _ _ (written .write-2d .ensures .0) (written .write-2d .ensures .1)
     (values-fit (first-axis .before .before .before) _ ∙ rw (x-over first-axis .thick, y-over second-axis .thick))
 

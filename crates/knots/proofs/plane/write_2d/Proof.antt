@@ -40,12 +40,16 @@ mul-cell-on c = search needs
 shared-slice-read-cell-on : tie.Need-shared-slice-read-cell-on Inv-loop μ-loop
 shared-slice-read-cell-on c = search needs
 
--- the call is answered, and i is one of its points
-some : (l : tie.At-loop Inv-loop μ-loop) → 0 < length (l .before .before .before .before .before .args .xs .now)
-some l = l .before .before .before .before .before .pre .0 .0
+-- where the call began
+abbrev start : tie.At-loop Inv-loop μ-loop → tie.Start Inv-loop μ-loop
+start l = l .before .before .before .before .before
 
-few : (l : tie.At-loop Inv-loop μ-loop) → l .before .before .before .before .before .args .order ≤ 30
-few l = l .before .before .before .before .before .pre .0 .1
+-- the call is answered, and i is one of its points
+some : (l : tie.At-loop Inv-loop μ-loop) → 0 < length (start l .args .xs .now)
+some l = start l .pre .0 .0
+
+few : (l : tie.At-loop Inv-loop μ-loop) → start l .args .order ≤ 30
+few l = start l .pre .0 .1
 
 here : (c : tie.In-loop Inv-loop μ-loop) → c .before .loop .i < length (c .before .before .before .before .before .before .args .xs .now)
 here c = search needs
@@ -53,7 +57,7 @@ here c = search needs
 cell-on-requires : tie.Need-cell-on-requires Inv-loop μ-loop
 cell-on-requires c κs =
     let l = c .before .before .before in
-    point-accepted _ _ _ _ (l .before .before .before .before .before .pre .1 .0) (some l) (few l) _ (here (c .before .before))
+    point-accepted _ _ _ _ (start l .pre .1 .0) (some l) (few l) _ (here (c .before .before))
 
 mul-cell-on-2 : tie.Need-mul-cell-on-2 Inv-loop μ-loop
 mul-cell-on-2 c = search needs
@@ -61,14 +65,14 @@ mul-cell-on-2 c = search needs
 shared-slice-read-cell-on-2 : tie.Need-shared-slice-read-cell-on-2 Inv-loop μ-loop
 shared-slice-read-cell-on-2 c =
     let l = c .before .before .before .before .before in
-    let e = l .before .before .before .before .before .pre .1 .1 .0 .all in
+    let e = start l .pre .1 .1 .0 .all in
     let h = here (c .before .before .before .before) in
     omega arith
 
 cell-on-requires-2 : tie.Need-cell-on-requires-2 Inv-loop μ-loop
 cell-on-requires-2 c κs =
     let l = c .before .before .before .before .before in
-    point-accepted _ _ _ _ (l .before .before .before .before .before .pre .1 .1 .0) (some l) (few l) _ (here (c .before .before .before .before))
+    point-accepted _ _ _ _ (start l .pre .1 .1 .0) (some l) (few l) _ (here (c .before .before .before .before))
 
 encode-2d-with-requires : tie.Need-encode-2d-with-requires Inv-loop μ-loop
 encode-2d-with-requires c κs = c .before .before .before .before .before .before .before .table .ensures
@@ -76,14 +80,13 @@ encode-2d-with-requires c κs = c .before .before .before .before .before .befor
 -- the answer is the index of point i
 coded-is : (c : tie.After-encode-2d-with Inv-loop μ-loop)
     → let l = c .before .before .before .before .before .before .before in
-    let a = l .before .before .before .before .before .args in
+    let a = start l .args in
     c .encode-2d-with .result ≡ coded.Index (index (a .xs .now) (a .ys .now) (a .order) (l .loop .i))
 coded-is c =
     let l = c .before .before .before .before .before .before .before in
-    let start = l .before .before .before .before .before in
-    let order = start .args .order in
-    let x = start .pre .1 .0 in
-    let y = start .pre .1 .1 .0 in
+    let order = start l .args .order in
+    let x = start l .pre .1 .0 in
+    let y = start l .pre .1 .1 .0 in
     let h = here (c .before .before .before .before .before .before) in
     c .encode-2d-with .ensures
     ∙ ap₂ (λ (a b : ℕ). encode2 a b order) (c .before .before .before .cell-on .ensures ∙ point-cell _ _ _ _ x (some l) (few l) _ h) (c .before .cell-on2 .ensures ∙ point-cell _ _ _ _ y (some l) (few l) _ h)
@@ -96,9 +99,9 @@ mul-indices : tie.Need-mul-indices Inv-loop μ-loop
 mul-indices c = search needs
 
 -- the slice keeps its length
-kept : (l : tie.At-loop Inv-loop μ-loop) → length (l .loop .indices) ≡ length (l .before .before .before .before .before .args .indices .now)
+kept : (l : tie.At-loop Inv-loop μ-loop) → length (l .loop .indices) ≡ length (start l .args .indices .now)
 kept l =
-    let k = l .before .before .before .before .before .pre .1 .1 .1 in
+    let k = start l .pre .1 .1 .1 in
     let i = l .loop .inv .0 in
     ap length (l .loop .inv .1) ∙ filled-length _ _ _ (omega arith)
 
@@ -107,7 +110,7 @@ slice-write-indices c =
     let l = c .before .before .before .before .before .before .before .before .before .before in
     let h = here (c .before .before .before .before .before .before .before .before .before) in
     let e = kept l in
-    let k = l .before .before .before .before .before .pre .1 .1 .1 in
+    let k = start l .pre .1 .1 .1 in
     omega arith
 
 enum-known-coded-2 : tie.Need-enum-known-coded-2 Inv-loop μ-loop
@@ -131,7 +134,7 @@ loop-less c = search needs
 loop-again : tie.Need-loop-again Inv-loop μ-loop
 loop-again c =
     let l = c .before .before .before .before .before .before .before .before .before .before in
-    let k = l .before .before .before .before .before .pre .1 .1 .1 in
+    let k = start l .pre .1 .1 .1 in
     let h = here (c .before .before .before .before .before .before .before .before .before) in
     (search needs, filled-more _ _ _ _ _ (omega arith) (l .loop .inv .1) (sym (c .before .coded .given .1) ∙ coded-is (c .before .before .before)))
 
@@ -141,7 +144,7 @@ same-length-2 c = kept (c .before)
 returns-2 : tie.Need-returns-2 Inv-loop μ-loop
 returns-2 c =
     let l = c .before in
-    (refl, l .loop .inv .1 ∙ filled-whole _ _ _ _ (c .loop-test .left) (l .loop .inv .0) (l .before .before .before .before .before .pre .1 .1 .1))
+    (refl, l .loop .inv .1 ∙ filled-whole _ _ _ _ (c .loop-test .left) (l .loop .inv .0) (start l .pre .1 .1 .1))
 
 pub write-2d-spec : {M : Type 1} → statement M
 write-2d-spec =

@@ -1,7 +1,7 @@
 -- `space::index_3d` meets its contract: it makes the tests in the rule's order, so each return knows the ones before it; fit points refuse an axis
 -- only for being thin. Assumes nothing.
 use mathlib.Core.Path.{_≡_, refl, sym, _∙_}
-use mathlib.Core.Bool.{Bool, true, false}
+use mathlib.Core.Bool.{Bool, false}
 use mathlib.Core.List.{[], _∷_}
 use Prim.Native.Nat.{_≤_, _<_}
 use native.Mathlib.Omega.{arith}
@@ -17,6 +17,20 @@ use Rattle.knots.proofs.Filed.{number3, refused3, answered3}
 use Rattle.knots.specs.Over.{Over}
 use Rattle.knots.proofs.space.index_3d.Statement.{statement}
 use Rattle.knots.proofs.space.index_3d.Tie as tie
+
+-- where the call began, from the places after its tests of the lengths and of the values
+abbrev after-lengths : tie.Else5 → tie.Start
+after-lengths c = c .before .before .before .before .before .before .before .before .before
+
+abbrev after-values : tie.Else8 → tie.Start
+after-values c = after-lengths (c .before .before .before .before .before .before)
+
+-- the place where the axis of xs was made, from that of ys, and that of ys from that of zs
+abbrev x-place : tie.After-y-answer → tie.After-x-answer
+x-place c = c .before .before .before .before
+
+abbrev y-place : tie.After-z-answer → tie.After-y-answer
+y-place c = c .before .before .before .before
 
 returns : tie.Need-returns
 unfolding refuseIndexAll
@@ -61,7 +75,7 @@ any-unfit-requires c κs = search needs
 
 -- 1, 4 and 5 are passed
 lengths-fit : (c : tie.Else5) (unfit thin : Bool)
-    → let a = c .before .before .before .before .before .before .before .before .before .args in
+    → let a = after-lengths c .args in
     number3 (a .xs .now) (a .ys .now) (a .zs .now) (a .order) (a .indices .now) unfit thin ≡ refuse unfit 6 (refuse thin 7 0)
 unfolding refuseIndexAll any
 lengths-fit c unfit thin =
@@ -76,7 +90,7 @@ returns-6 c = refused3 _ _ _ _ _ 5 _ refl (lengths-fit (c .before .before) _ _ �
 any-unfit-requires-2 : tie.Need-any-unfit-requires-2
 any-unfit-requires-2 c κs = search needs
 
-x-fit : (c : tie.Else6) → any valueUnfit (c .before .before .before .before .before .before .before .before .before .before .before .args .xs .now) ≡ false
+x-fit : (c : tie.Else6) → any valueUnfit (after-lengths (c .before .before) .args .xs .now) ≡ false
 x-fit c = sym (c .before .any-unfit .ensures) ∙ c .if6 .left
 
 returns-7 : tie.Need-returns-7
@@ -88,7 +102,7 @@ returns-7 c =
 any-unfit-requires-3 : tie.Need-any-unfit-requires-3
 any-unfit-requires-3 c κs = search needs
 
-y-fit : (c : tie.Else7) → any valueUnfit (c .before .before .before .before .before .before .before .before .before .before .before .before .before .args .ys .now) ≡ false
+y-fit : (c : tie.Else7) → any valueUnfit (after-lengths (c .before .before .before .before) .args .ys .now) ≡ false
 y-fit c = sym (c .before .any-unfit2 .ensures) ∙ c .if7 .left
 
 returns-8 : tie.Need-returns-8
@@ -98,7 +112,7 @@ returns-8 c =
     let sixth = seventh .before .before in
     refused3 _ _ _ _ _ 5 _ refl (lengths-fit (sixth .before .before) _ _ ∙ rw (x-fit sixth, y-fit seventh, sym (c .before .any-unfit3 .ensures) ∙ c .if8 .taken))
 
-z-fit : (c : tie.Else8) → any valueUnfit (c .before .before .before .before .before .before .before .before .before .before .before .before .before .before .before .args .zs .now) ≡ false
+z-fit : (c : tie.Else8) → any valueUnfit (after-values c .args .zs .now) ≡ false
 z-fit c = sym (c .before .any-unfit3 .ensures) ∙ c .if8 .left
 
 axis-over-requires : tie.Need-axis-over-requires
@@ -115,7 +129,7 @@ number-of-requires c κs = search needs
 
 -- 6 is passed too
 values-fit : (c : tie.Else8) (thin : Bool)
-    → let a = c .before .before .before .before .before .before .before .before .before .before .before .before .before .before .before .args in
+    → let a = after-values c .args in
     number3 (a .xs .now) (a .ys .now) (a .zs .now) (a .order) (a .indices .now) (someUnfit (a .xs .now ∷ a .ys .now ∷ a .zs .now ∷ [])) thin
     ≡ refuse thin 7 0
 unfolding any someUnfit
@@ -148,7 +162,7 @@ number-of-requires-2 : tie.Need-number-of-requires-2
 number-of-requires-2 c κs = search needs
 
 -- the axis of xs is made over them
-x-over : (c : tie.After-x-answer) → let a = c .before .before .before .before .before .before .before .before .before .before .before .before .before .before .before .before .before .before .args in Over (a .xs .now) (length (a .xs .now)) (a .order) (c .x-answer .given .0 .0)
+x-over : (c : tie.After-x-answer) → let a = after-values (c .before .before .before) .args in Over (a .xs .now) (length (a .xs .now)) (a .order) (c .x-answer .given .0 .0)
 x-over c =
     let made = c .before .before in
     let sixth = made .before .before .before .before .before in
@@ -182,7 +196,7 @@ number-of-requires-3 : tie.Need-number-of-requires-3
 number-of-requires-3 c κs = search needs
 
 -- that of ys over ys
-y-over : (c : tie.After-y-answer) → let a = c .before .before .before .before .before .before .before .before .before .before .before .before .before .before .before .before .before .before .before .before .before .before .args in Over (a .ys .now) (length (a .xs .now)) (a .order) (c .y-answer .given .0 .0)
+y-over : (c : tie.After-y-answer) → let a = after-values (x-place c .before .before .before) .args in Over (a .ys .now) (length (a .xs .now)) (a .order) (c .y-answer .given .0 .0)
 y-over c =
     let made = c .before .before in
     let seventh = made .before .before .before .before .before .before .before in
@@ -195,7 +209,7 @@ unfolding any someThin
 returns-11 c =
     let made = c .before .before .before in
     let second-axis = made .before .before in
-    let first-axis = second-axis .before .before .before .before in
+    let first-axis = x-place second-axis in
     let eighth = first-axis .before .before .before in
     let fourth = eighth .before .before .before .before .before .before .before in
     let second = fourth .before .before in
@@ -205,7 +219,7 @@ returns-11 c =
     refused3 _ _ _ _ _ 6 _ number (values-fit eighth _ ∙ rw (x-over first-axis .thick, y-over second-axis .thick, thin))
 
 -- and that of zs over zs
-z-over : (c : tie.After-z-answer) → let a = c .before .before .before .before .before .before .before .before .before .before .before .before .before .before .before .before .before .before .before .before .before .before .before .before .before .before .args in Over (a .zs .now) (length (a .xs .now)) (a .order) (c .z-answer .given .0 .0)
+z-over : (c : tie.After-z-answer) → let a = after-values (x-place (y-place c) .before .before .before) .args in Over (a .zs .now) (length (a .xs .now)) (a .order) (c .z-answer .given .0 .0)
 z-over c =
     let made = c .before .before in
     let eighth = made .before .before .before .before .before .before .before .before .before in
@@ -216,8 +230,8 @@ z-over c =
 write-3d-requires : tie.Need-write-3d-requires
 write-3d-requires c κs =
     let third-axis = c .before .before in
-    let second-axis = third-axis .before .before .before .before in
-    let first-axis = second-axis .before .before .before .before in
+    let second-axis = y-place third-axis in
+    let first-axis = x-place second-axis in
     let fifth = first-axis .before .before .before .before .before .before .before .before .before in
     let second = fifth .before .before .before in
     ((points second, second .before .if1 .left), (x-over first-axis, (y-over second-axis, (z-over third-axis, fifth .if5 .left))))
@@ -230,8 +244,8 @@ unfolding any someThin
 returns-12 c =
     let written = c .before .before in
     let third-axis = written .before .before .before in
-    let second-axis = third-axis .before .before .before .before in
-    let first-axis = second-axis .before .before .before .before in
+    let second-axis = y-place third-axis in
+    let first-axis = x-place second-axis in
     answered3 _ _ _ _ _ _ _ (written .write-3d .ensures .0) (written .write-3d .ensures .1)
     (values-fit (first-axis .before .before .before) _ ∙ rw (x-over first-axis .thick, y-over second-axis .thick, z-over third-axis .thick))
 

@@ -8,7 +8,7 @@ use borrow.Author.Needs.{needs}
 use lib.ListN.{length}
 use lib.Ieee.{Float}
 use Rattle.rules.specs.Sums.{list}
-use Rattle.rules.specs.Curve.{space, cell3, indexOf, encode3}
+use Rattle.rules.specs.Curve.{space, cell3, indexOf}
 use Rattle.rules.specs.Knots.{knot}
 use Rattle.rules.specs.declared.Coded.the-variants as coded
 use Rattle.curve_laws.proofs.Refusals.{encode3-index}
@@ -31,12 +31,16 @@ loop-holds : tie.Need-loop-holds Inv-loop μ-loop
 unfolding list
 loop-holds c = (search needs, refl)
 
--- the call is answered, and i is one of its points
-some : (l : tie.At-loop Inv-loop μ-loop) → 0 < length (l .before .before .before .before .before .args .xs .now)
-some l = l .before .before .before .before .before .pre .0 .0
+-- where the call began
+abbrev start : tie.At-loop Inv-loop μ-loop → tie.Start Inv-loop μ-loop
+start l = l .before .before .before .before .before
 
-few : (l : tie.At-loop Inv-loop μ-loop) → l .before .before .before .before .before .args .order ≤ 30
-few l = let h = l .before .before .before .before .before .pre .0 .1 in omega arith
+-- the call is answered, and i is one of its points
+some : (l : tie.At-loop Inv-loop μ-loop) → 0 < length (start l .args .xs .now)
+some l = start l .pre .0 .0
+
+few : (l : tie.At-loop Inv-loop μ-loop) → start l .args .order ≤ 30
+few l = let h = start l .pre .0 .1 in omega arith
 
 here : (c : tie.In-loop Inv-loop μ-loop) → c .before .loop .i < length (c .before .before .before .before .before .before .args .xs .now)
 here c = search needs
@@ -50,7 +54,7 @@ shared-slice-read-cell-on c = search needs
 cell-on-requires : tie.Need-cell-on-requires Inv-loop μ-loop
 cell-on-requires c κs =
     let l = c .before .before in
-    point-accepted _ _ _ _ (l .before .before .before .before .before .pre .1 .0) (some l) (few l) _ (here (c .before))
+    point-accepted _ _ _ _ (start l .pre .1 .0) (some l) (few l) _ (here (c .before))
 
 mul-cell-on-2 : tie.Need-mul-cell-on-2 Inv-loop μ-loop
 mul-cell-on-2 c = search needs
@@ -64,7 +68,7 @@ shared-slice-read-cell-on-2 c =
 cell-on-requires-2 : tie.Need-cell-on-requires-2 Inv-loop μ-loop
 cell-on-requires-2 c κs =
     let l = c .before .before .before .before in
-    point-accepted _ _ _ _ (l .before .before .before .before .before .pre .1 .1 .0) (some l) (few l) _ (here (c .before .before .before))
+    point-accepted _ _ _ _ (start l .pre .1 .1 .0) (some l) (few l) _ (here (c .before .before .before))
 
 mul-cell-on-3 : tie.Need-mul-cell-on-3 Inv-loop μ-loop
 mul-cell-on-3 c = search needs
@@ -78,7 +82,7 @@ shared-slice-read-cell-on-3 c =
 cell-on-requires-3 : tie.Need-cell-on-requires-3 Inv-loop μ-loop
 cell-on-requires-3 c κs =
     let l = c .before .before .before .before .before .before in
-    point-accepted _ _ _ _ (l .before .before .before .before .before .pre .1 .1 .1 .0) (some l) (few l) _ (here (c .before .before .before .before .before))
+    point-accepted _ _ _ _ (start l .pre .1 .1 .1 .0) (some l) (few l) _ (here (c .before .before .before .before .before))
 
 encode-3d-requires : tie.Need-encode-3d-requires Inv-loop μ-loop
 encode-3d-requires c κs = search needs
@@ -86,22 +90,21 @@ encode-3d-requires c κs = search needs
 -- the answer is the index of point i
 coded-is : (c : tie.After-encode-3d Inv-loop μ-loop)
     → let l = c .before .before .before .before .before .before .before .before in
-    let a = l .before .before .before .before .before .args in
+    let a = start l .args in
     c .encode-3d .result ≡ coded.Index (index (a .xs .now) (a .ys .now) (a .zs .now) (a .order) (l .loop .i))
 coded-is c =
     let l = c .before .before .before .before .before .before .before .before in
-    let start = l .before .before .before .before .before in
-    let order = start .args .order in
-    let x = start .pre .1 .0 in
-    let y = start .pre .1 .1 .0 in
-    let z = start .pre .1 .1 .1 .0 in
+    let order = start l .args .order in
+    let x = start l .pre .1 .0 in
+    let y = start l .pre .1 .1 .0 in
+    let z = start l .pre .1 .1 .1 .0 in
     let h = here (c .before .before .before .before .before .before .before) in
     let on-x = c .before .before .before .before .before .cell-on .ensures ∙ point-cell _ _ _ _ x (some l) (few l) _ h in
     let on-y = c .before .before .before .cell-on2 .ensures ∙ point-cell _ _ _ _ y (some l) (few l) _ h in
     let on-z = c .before .cell-on3 .ensures ∙ point-cell _ _ _ _ z (some l) (few l) _ h in
     c .encode-3d .ensures
     ∙ rw (on-x, on-y, on-z)
-    (encode3-index _ _ _ order (start .pre .0 .1) (point-below _ _ _ _ x (some l) (few l) _ h) (point-below _ _ _ _ y (some l) (few l) _ h) (point-below _ _ _ _ z (some l) (few l) _ h))
+    (encode3-index _ _ _ order (start l .pre .0 .1) (point-below _ _ _ _ x (some l) (few l) _ h) (point-below _ _ _ _ y (some l) (few l) _ h) (point-below _ _ _ _ z (some l) (few l) _ h))
 
 enum-known-coded : tie.Need-enum-known-coded Inv-loop μ-loop
 enum-known-coded c = search needs
@@ -110,9 +113,9 @@ mul-indices : tie.Need-mul-indices Inv-loop μ-loop
 mul-indices c = search needs
 
 -- the slice keeps its length
-kept : (l : tie.At-loop Inv-loop μ-loop) → length (l .loop .indices) ≡ length (l .before .before .before .before .before .args .indices .now)
+kept : (l : tie.At-loop Inv-loop μ-loop) → length (l .loop .indices) ≡ length (start l .args .indices .now)
 kept l =
-    let k = l .before .before .before .before .before .pre .1 .1 .1 .1 in
+    let k = start l .pre .1 .1 .1 .1 in
     let i = l .loop .inv .0 in
     ap length (l .loop .inv .1) ∙ filled-length _ _ _ (omega arith)
 
@@ -121,7 +124,7 @@ slice-write-indices c =
     let l = c .before .before .before .before .before .before .before .before .before .before .before in
     let h = here (c .before .before .before .before .before .before .before .before .before .before) in
     let e = kept l in
-    let k = l .before .before .before .before .before .pre .1 .1 .1 .1 in
+    let k = start l .pre .1 .1 .1 .1 in
     omega arith
 
 enum-known-coded-2 : tie.Need-enum-known-coded-2 Inv-loop μ-loop
@@ -145,7 +148,7 @@ loop-less c = search needs
 loop-again : tie.Need-loop-again Inv-loop μ-loop
 loop-again c =
     let l = c .before .before .before .before .before .before .before .before .before .before .before in
-    let k = l .before .before .before .before .before .pre .1 .1 .1 .1 in
+    let k = start l .pre .1 .1 .1 .1 in
     let h = here (c .before .before .before .before .before .before .before .before .before .before) in
     (search needs, filled-more _ _ _ _ _ (omega arith) (l .loop .inv .1) (sym (c .before .coded .given .1) ∙ coded-is (c .before .before .before)))
 
@@ -155,7 +158,7 @@ same-length-2 c = kept (c .before)
 returns-2 : tie.Need-returns-2 Inv-loop μ-loop
 returns-2 c =
     let l = c .before in
-    (refl, l .loop .inv .1 ∙ filled-whole _ _ _ _ (c .loop-test .left) (l .loop .inv .0) (l .before .before .before .before .before .pre .1 .1 .1 .1))
+    (refl, l .loop .inv .1 ∙ filled-whole _ _ _ _ (c .loop-test .left) (l .loop .inv .0) (start l .pre .1 .1 .1 .1))
 
 pub write-3d-spec : {M : Type 1} → statement M
 write-3d-spec =
