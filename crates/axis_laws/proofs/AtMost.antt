@@ -103,7 +103,22 @@ through : (a b c a' b' c' x y z : ℕ) → 0 < c' → a * c' + b' * c ≤ a' * c
 through a b c a' b' c' x y z p h k =
     let u : (a * c' + b' * c) * z ≤ (a' * c + b * c') * z = mul-le-mul-right z h in
     let v : (a' * z + y * c') * c ≤ (x * c' + b' * z) * c = mul-le-mul-right c k in
-    let w : (a * z + y * c) * c' ≤ (x * c + b * z) * c' = omega (arith, add-mul (a * c') (b' * c) z, add-mul (a' * c) (b * c') z, add-mul (a' * z) (y * c') c, add-mul (x * c') (b' * z) c, add-mul (a * z) (y * c) c', add-mul (x * c) (b * z) c', mul-right-comm a c' z, mul-right-comm b' c z, mul-right-comm a' c z, mul-right-comm b c' z, mul-right-comm y c' c, mul-right-comm x c' c) in
+    let w : (a * z + y * c) * c' ≤ (x * c + b * z) * c' =
+    omega (
+      arith,
+      add-mul (a * c') (b' * c) z,
+      add-mul (a' * c) (b * c') z,
+      add-mul (a' * z) (y * c') c,
+      add-mul (x * c') (b' * z) c,
+      add-mul (a * z) (y * c) c',
+      add-mul (x * c) (b * z) c',
+      mul-right-comm a c' z,
+      mul-right-comm b' c z,
+      mul-right-comm a' c z,
+      mul-right-comm b c' z,
+      mul-right-comm y c' c,
+      mul-right-comm x c' c,
+    ) in
     le-of-mul-le-mul-right w p
 
 pub at-most-trans : (x y z : Float) → at-most x y → at-most y z → at-most x z
