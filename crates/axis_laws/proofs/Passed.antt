@@ -2,7 +2,7 @@
 use mathlib.Core.Path.{_≡_, refl, sym, subst}
 use Prim.Native.Nat.{ℕ, suc, _≤_}
 use native.Mathlib.Omega.{arith}
-use mathlib.Core.Bool.{Bool, true, false, _&&_, _||_, true≢false}
+use mathlib.Core.Bool.{Bool, true, false, _&&_, _||_}
 use mathlib.Core.List.{[], _∷_}
 use lib.IntN.{pos}
 use lib.Dec.{T}
@@ -18,10 +18,6 @@ use Rattle.axis_laws.proofs.Width.{in-size-finite}
 pub passed : (b : Bool) (n later : ℕ) → refuse b (suc n) later ≡ 0 → (b ≡ false) × (later ≡ 0)
 passed true n later e = absurd (omega arith)
 passed false n later e = (refl, e)
-
-pub passes : (b : Bool) (n later : ℕ) → b ≡ false → later ≡ 0 → refuse b n later ≡ 0
-passes true n later p q = absurd (true≢false p)
-passes false n later p q = q
 
 -- A FIT VALUE
 
