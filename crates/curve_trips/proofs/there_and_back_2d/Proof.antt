@@ -1,0 +1,33 @@
+-- `there_and_back_2d` meets its contract: what encodes to an index is decoded to the cell, and a refusal is handed on. Assumes nothing.
+use mathlib.Core.Path.{_∙_, sym}
+use borrow.Author.Needs.{needs}
+use Rattle.curve_laws.proofs.Trips.{there-and-back2, refusal-back2}
+use Rattle.curve_trips.proofs.there_and_back_2d.Statement.{statement}
+use Rattle.curve_trips.proofs.there_and_back_2d.Tie as tie
+
+encode-2d-requires : tie.Need-encode-2d-requires
+encode-2d-requires c κs = search needs
+
+enum-known-coded : tie.Need-enum-known-coded
+enum-known-coded c = search needs
+
+decode-2d-requires : tie.Need-decode-2d-requires
+decode-2d-requires c κs = search needs
+
+enum-known-coded-2 : tie.Need-enum-known-coded-2
+enum-known-coded-2 c = search needs
+
+returns : tie.Need-returns
+returns c =
+    let told = c .before .before in
+    c .decode-2d .ensures ∙ there-and-back2 _ _ _ _ (sym (told .before .before .encode-2d .ensures) ∙ told .coded .given .1)
+
+returns-2 : tie.Need-returns-2
+returns-2 c =
+    let told = c .before in
+    refusal-back2 _ _ _ _ (sym (told .before .before .encode-2d .ensures) ∙ told .coded2 .given .1)
+
+pub there-and-back-2d-spec : {M : Type 1} → statement M
+there-and-back-2d-spec =
+    tie.close
+    (tie.spec encode-2d-requires enum-known-coded decode-2d-requires enum-known-coded-2 returns returns-2)
