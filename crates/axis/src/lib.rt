@@ -69,7 +69,7 @@ fn factor_of(low: f64, high: f64, order: u32) -> f64
     ensures { λ r. ⌜ r ≡ factorOf low high order ⌝ }
 {
     let width = high - low;
-    let n = (1u32 << order) as f64;
+    let n = (1u64 << order) as f64;
     let mut f = n / width;
     while n <= width * f {
         f = next_down(f);

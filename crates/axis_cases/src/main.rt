@@ -1,4 +1,6 @@
-// Cases of axis and cell, a line each: document 01's, and each kind of refusal.
+// Cases of axis, cell and all points, a line each: document 01's, and each kind of refusal.
+mod points;
+
 use axis::cell;
 use axis::extent_of;
 use axis::make_axis;
@@ -170,4 +172,6 @@ fn main() {
     refused_values(nan, infinity);
     made_up_records(nan);
     zeros();
+    points::plane(nan);
+    points::space(nan);
 }

@@ -1,8 +1,8 @@
 -- The order of finite values is that of the fractions they stand for, so it is total and transitive: what is not less is at most. Assumes nothing.
-use mathlib.Core.Path.{_≡_, refl, sym, ap, _∙_, subst}
+use mathlib.Core.Path.{_≡_, refl, sym, subst}
 use mathlib.Core.Logic.{inl, inr}
 use Prim.Native.Nat.{ℕ, _+_, _*_, _≤_, _<_}
-use native.Mathlib.Nat.{le-trans, le-of-eq, le-of-mul-le-mul-right, mul-le-mul-right, mul-right-comm, add-mul, mul-comm, eq-zero-or-pos, eq-or-lt-of-le}
+use native.Mathlib.Nat.{le-of-mul-le-mul-right, mul-le-mul-right, mul-right-comm, add-mul, eq-zero-or-pos, eq-or-lt-of-le}
 use native.Mathlib.Omega.{arith}
 use mathlib.Core.Bool.{Bool, true, false, not, _&&_, _||_, true≢false}
 use lib.Dec.{T, ltb, eqb, ltb→lt, lt→ltb, nltb→le}
@@ -103,7 +103,22 @@ through : (a b c a' b' c' x y z : ℕ) → 0 < c' → a * c' + b' * c ≤ a' * c
 through a b c a' b' c' x y z p h k =
     let u : (a * c' + b' * c) * z ≤ (a' * c + b * c') * z = mul-le-mul-right z h in
     let v : (a' * z + y * c') * c ≤ (x * c' + b' * z) * c = mul-le-mul-right c k in
-    let w : (a * z + y * c) * c' ≤ (x * c + b * z) * c' = omega (arith, add-mul (a * c') (b' * c) z, add-mul (a' * c) (b * c') z, add-mul (a' * z) (y * c') c, add-mul (x * c') (b' * z) c, add-mul (a * z) (y * c) c', add-mul (x * c) (b * z) c', mul-right-comm a c' z, mul-right-comm b' c z, mul-right-comm a' c z, mul-right-comm b c' z, mul-right-comm y c' c, mul-right-comm x c' c) in
+    let w : (a * z + y * c) * c' ≤ (x * c + b * z) * c' =
+    omega (
+      arith,
+      add-mul (a * c') (b' * c) z,
+      add-mul (a' * c) (b * c') z,
+      add-mul (a' * z) (y * c') c,
+      add-mul (x * c') (b' * z) c,
+      add-mul (a * z) (y * c) c',
+      add-mul (x * c) (b * z) c',
+      mul-right-comm a c' z,
+      mul-right-comm b' c z,
+      mul-right-comm a' c z,
+      mul-right-comm b c' z,
+      mul-right-comm y c' c,
+      mul-right-comm x c' c,
+    ) in
     le-of-mul-le-mul-right w p
 
 pub at-most-trans : (x y z : Float) → at-most x y → at-most y z → at-most x z

@@ -1,12 +1,12 @@
 -- A sloped axis: its width lies above zero, its factor takes at most one step down, and what the factor makes of a value on the axis lies
 -- below 2^order. Assumes nothing.
-use mathlib.Core.Path.{_≡_, refl, sym, ap, _∙_, subst}
-use Prim.Native.Nat.{ℕ, suc, zero, _≤_, _<_, _^_}
+use mathlib.Core.Path.{_≡_, refl, sym, ap, _∙_}
+use Prim.Native.Nat.{ℕ, _≤_}
 use native.Mathlib.Omega.{arith}
-use mathlib.Core.Bool.{Bool, true, false, _&&_, true≢false}
-use lib.IntN.{pos, negsuc}
+use mathlib.Core.Bool.{Bool, true, false, _&&_}
+use lib.IntN.{negsuc}
 use lib.Dec.{T}
-use lib.Ieee.{Float, nan, inf, fin, binary64, fits, toBits, le, lt, eq, mul, div}
+use lib.Ieee.{Float, fin, binary64, fits, toBits, le, lt, eq, mul, div}
 use lib.Ieee.Positive.{positive}
 use Rattle.rules.specs.Refusals.{nought, width, axisThin, refuseAxis, valueUnfit}
 use Rattle.rules.specs.Axis.{cellCount, nextDown, descend, descendFrom, factorOf}
@@ -16,7 +16,7 @@ use Rattle.axis_laws.proofs.Width.{cells-value, cells-positive, width-p
 use Rattle.axis_laws.proofs.Descent.{again, start-fits, start-pattern, descend-stop, descend-step, descent-ends}
 use Rattle.axis_laws.proofs.OneStep.{num-pos, one-step}
 use Rattle.axis_laws.proofs.ProductBelow.{Ready, ready, product}
-use Rattle.axis_laws.proofs.Passed.{Sound, sound, fit-low, fit-high, fit-finite}
+use Rattle.axis_laws.proofs.Passed.{sound, fit-low, fit-high, fit-finite}
 
 pub few : (order : ℕ) → order ≤ 30 → order ≤ 32
 few order h = omega arith

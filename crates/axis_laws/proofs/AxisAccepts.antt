@@ -1,16 +1,16 @@
 -- The axis of fit points is refused only for its order or for being thin, and else accepts each of the points. Assumes nothing.
-use mathlib.Core.Path.{_≡_, refl, sym, ap, _∙_, subst}
-use Prim.Native.Nat.{ℕ, zero, suc, _≤_, _<_, _^_}
+use mathlib.Core.Path.{_≡_, refl, sym, _∙_, subst}
+use Prim.Native.Nat.{ℕ, _≤_, _<_, _^_}
 use native.Mathlib.Omega.{arith}
-use mathlib.Core.Bool.{Bool, true, false, cond, _||_}
-use mathlib.Core.List.{List, [], _∷_}
+use mathlib.Core.Bool.{Bool, true, false, cond}
+use mathlib.Core.List.{List}
 use lib.Dec.{T}
 use borrow.Author.Tests.{le-ltb}
 use lib.ListN.{length, getD}
-use lib.Ieee.{Float, eq, lt}
+use lib.Ieee.{Float, eq}
 use Rattle.rules.specs.Sums.{any}
-use Rattle.rules.specs.Refusals.{top2, nought, width, refuse, valueUnfit, axisThin, orderOver, refuseAxis, refuseCell, axisBy, cellBy}
-use Rattle.rules.specs.Axis.{factorOf, axisOf, makeAxis, lowOf, highOf, orderOf, madeUp, cellOn, cellOf, extentOf}
+use Rattle.rules.specs.Refusals.{top2, nought, width, refuse, valueUnfit, orderOver, refuseAxis, refuseCell, axisBy, cellBy}
+use Rattle.rules.specs.Axis.{factorOf, axisOf, makeAxis, lowOf, highOf, orderOf, madeUp, cellOf, extentOf}
 use Rattle.rules.specs.Knots.{thinOver, axisOver, knot}
 use Rattle.rules.specs.declared.Axis.{Axis}
 use Rattle.rules.specs.declared.Axis.the-variants.{Flat, Sloped}
@@ -22,7 +22,7 @@ use Rattle.axis_laws.proofs.Passed.{fit-finite, inside-answered}
 use Rattle.axis_laws.proofs.MadeUp.{inFormat, not-made-up}
 use Rattle.axis_laws.proofs.AtMostOneStep.{factor-ends}
 use Rattle.axis_laws.proofs.CellBelow.{on-below}
-use Rattle.axis_laws.proofs.ExtentHolds.{Proper, Holds, extent-proper, extent-holds}
+use Rattle.axis_laws.proofs.ExtentHolds.{extent-proper, extent-holds}
 
 -- an axis carries the low, high and order it is made of
 pub ends-of : (low high : Float) (order : ℕ) → (lowOf (axisOf low high order) ≡ low) × (highOf (axisOf low high order) ≡ high) × (orderOf (axisOf low high order) ≡ order)

@@ -8,7 +8,7 @@ use mathlib.Core.Bool.{Bool, true, false, not, cond, true≢false}
 use lib.IntN.{pos}
 use lib.Dec.{T, eqb, ltb→lt, lit<}
 use borrow.Author.Tests.{ne-eqb}
-use lib.Ieee.{Float, nan, inf, fin, binary64, up, down, round, mul, div, le, lt, toBits, ofBits, fits}
+use lib.Ieee.{Float, nan, inf, fin, binary64, up, down, round, mul, div, le, lt, toBits, fits}
 use lib.Ieee.Bits.{ofBits-fits}
 use lib.Ieee.Fits.{div-fits}
 use lib.Ieee.Positive.{num, den, den-pos, positive}

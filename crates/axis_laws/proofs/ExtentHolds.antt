@@ -1,8 +1,8 @@
 -- Low and high of fit points hold them all: an end that is replaced moves outward. Assumes nothing.
-use mathlib.Core.Path.{_≡_, refl, sym, ap, _∙_, subst}
+use mathlib.Core.Path.{_≡_, refl}
 use Prim.Native.Nat.{ℕ, zero, suc, _<_}
 use native.Mathlib.Omega.{arith}
-use mathlib.Core.Bool.{Bool, true, false, cond, _||_}
+use mathlib.Core.Bool.{Bool, true, false, cond}
 use mathlib.Core.List.{List, [], _∷_}
 use lib.Dec.{T}
 use lib.ListN.{length, getD}
@@ -13,7 +13,7 @@ use Rattle.rules.specs.Refusals.{nought, valueUnfit}
 use Rattle.rules.specs.Axis.{widen, widenAll, extentOf}
 use Rattle.rules.specs.declared.Extent.{Extent}
 use Rattle.laws.proofs.Any.{neither}
-use Rattle.axis_laws.proofs.AtMost.{at-most, at-most-itself, at-most-trans, nlt→at-most, lt→at-most, at-most→nlt}
+use Rattle.axis_laws.proofs.AtMost.{at-most, at-most-itself, at-most-trans, nlt→at-most, lt→at-most}
 use Rattle.axis_laws.proofs.Passed.{fit-finite}
 
 -- both ends are fit, and the one is at most the other

@@ -1,7 +1,7 @@
 -- Of 0.0 and -0.0 the first met stays: a point that is neither strictly smaller nor strictly larger replaces no end, and no zero is so of another.
 -- Assumes nothing.
-use mathlib.Core.Path.{_≡_, refl, ap, ap₂, _∙_}
-use mathlib.Core.Bool.{Bool, true, false, cond}
+use mathlib.Core.Path.{_≡_, refl, ap, _∙_}
+use mathlib.Core.Bool.{Bool, true, false}
 use mathlib.Core.List.{List, [], _∷_, map}
 use lib.IntN.{pos}
 use lib.Ieee.{Float, fin, lt}

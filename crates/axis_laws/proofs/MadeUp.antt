@@ -3,7 +3,7 @@
 use mathlib.Core.Path.{_≡_, refl, sym, ap, _∙_, subst}
 use Prim.Native.Nat.{ℕ, zero, suc}
 use native.Mathlib.Omega.{arith}
-use mathlib.Core.Bool.{Bool, true, false, not, _&&_, cond, true≢false}
+use mathlib.Core.Bool.{Bool, true, false, not, cond, true≢false}
 use lib.Dec.{T, eqb, eqb→eq}
 use borrow.Author.Tests.{not-false, eq-eqb}
 use lib.Ieee.{Float, nan, inf, fin, binary64, fits, isNan, toBits, ofBits, eq}

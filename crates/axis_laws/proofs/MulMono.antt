@@ -1,22 +1,19 @@
 -- Products and bounds of values that are not negative: how far a cell can lie. Assumes nothing.
 use mathlib.Core.Path.{_≡_, refl, sym, ap, _∙_, subst}
-use mathlib.Core.Logic.{inl, inr}
-use Prim.Native.Nat.{ℕ, suc, zero, _+_, _-_, _*_, _/_, _%_, _^_, _≤_, _<_, min, compare, zero-le}
-use native.Mathlib.Nat.{le-trans, le-of-eq, lt-of-lt-of-le, lt-of-le-of-lt, mul-comm, mul-assoc, mul-left-comm, mul-right-comm, mul-mul-mul-comm, mul-le-mul-right, mul-le-mul-left, mul-lt-mul-of-pos-right, zero-mul, mul-zero, mul-pos, eq-zero-or-pos, mul-one, div-lt-iff-lt-mul}
+use Prim.Native.Nat.{ℕ, suc, _+_, _-_, _*_, _^_, _≤_, _<_}
+use native.Mathlib.Nat.{le-trans, le-of-eq, mul-comm, mul-right-comm, mul-mul-mul-comm, mul-le-mul-right, mul-le-mul-left, mul-lt-mul-of-pos-right, mul-pos}
 use native.Mathlib.Omega.{arith}
-use mathlib.Core.Bool.{Bool, true, false, not, _&&_, _||_, cond, true≢false}
-use lib.IntN.{pos, negsuc}
-use lib.Dec.{T, ltb, eqb, ltb→lt, lt→ltb, nltb→le, eqb→eq}
-use borrow.Author.Tests.{lt-ltb, le-ltb, eq-eqb}
-use lib.Ieee.{Float, nan, inf, fin, Format, binary64, prec, emax, low, up, down, round, units, odd, mul, div, sub, le, lt, eq, ofInt, toUnsigned, toBits, fits}
-use lib.Ieee.Fits.{round-is, up-pos, down-pos}
+use mathlib.Core.Bool.{Bool, true, false, not, _&&_, cond, true≢false}
+use lib.IntN.{pos}
+use lib.Dec.{T, ltb, ltb→lt, lt→ltb, nltb→le}
+use lib.Ieee.{Float, nan, inf, fin, Format, binary64, prec, emax, low, up, down, round, units, odd, mul, sub, le, lt}
+use lib.Ieee.Fits.{round-is}
 use lib.Ieee.Exact.{HasValue, odd-sign}
 use lib.Ieee.Scale.{round-same, finite}
-use lib.Ieee.Order.{round-mono, drop, kept, le-of-values}
-use lib.Ieee.Back.{round-whole}
-use lib.Ieee.Positive.{num, den, den-pos, positive, value→cross, positive-of-value, first-pos}
-use Rattle.axis_laws.proofs.SubMono.{minus, plus, less, gap, sub-is, sub-mono, le→signed, or-elim, and-l, and-r, weaken, nlt, false-of, cond-no}
-use Rattle.axis_laws.proofs.StepPattern.{upward, last, zero-of-pattern, upward-of-pattern}
+use lib.Ieee.Order.{round-mono, drop, kept}
+use lib.Ieee.Positive.{num, den, den-pos, positive}
+use Rattle.axis_laws.proofs.SubMono.{minus, gap, sub-is, weaken, false-of}
+use Rattle.axis_laws.proofs.StepPattern.{upward}
 
 -- finite, and not negative
 abbrev pub nonneg : Float → Bool

@@ -1,25 +1,24 @@
 -- The step down is taken at most once: with x = n / w rounded, n a power of two, w times the value below x rounds to less than n. Assumes nothing.
 use mathlib.Core.Path.{_≡_, refl, sym, ap, _∙_, subst}
 use mathlib.Core.Logic.{_⊎_, inl, inr}
-use Prim.Native.Nat.{ℕ, suc, zero, _+_, _-_, _*_, _/_, _%_, _^_, _≤_, _<_, compare}
+use Prim.Native.Nat.{ℕ, suc, _+_, _-_, _*_, _/_, _%_, _^_, _≤_, _<_, compare}
 use native.Mathlib.Nat.{le-trans, le-of-eq, lt-of-lt-of-le, lt-of-le-of-lt, mul-comm, mul-assoc, mul-left-comm, mul-right-comm, mul-le-mul-right, mul-le-mul-left, mul-lt-mul-of-pos-right, lt-of-mul-lt-mul-right, mul-pos, mul-one, one-mul, mul-div-cancel, div-lt-iff-lt-mul, le-div-iff-mul-le, div-div-eq-div-mul, mod-eq-of-lt, eq-or-lt-of-le, add-mul, lt-irrefl}
 use native.Mathlib.Omega.{arith}
-use mathlib.Core.Bool.{Bool, true, false, not, _&&_, _||_, cond, true≢false}
-use lib.IntN.{pos}
-use lib.Dec.{T, nltb→le, ltb, eqb, leb, ltb→lt, lt→ltb, lit≤, lit<}
+use mathlib.Core.Bool.{Bool, true, false, not, cond, true≢false}
+use lib.Dec.{T, nltb→le, ltb, eqb, ltb→lt, lit≤, lit<}
 use lib.Arith.{digits-div, digits-mod}
 use lib.Pow.{pow-add, pow-pos, pow-mono, pow-lt, shl-shr, shl-lt}
 use borrow.Author.Tests.{lt-leb, ne-eqb}
-use lib.Ieee.{Float, nan, inf, fin, Format, binary64, up, down, size, hid, ones, top, nearest, round, odd, mul, div, le, lt, ofFields, ofBits, toBits}
+use lib.Ieee.{Float, nan, inf, fin, binary64, up, down, size, top, round, odd, mul, div, le, ofFields, ofBits, toBits}
 use lib.Ieee.Digits.{size-lt, size-le, size-reaches}
 use lib.Ieee.Fits.{up-pos, down-pos, nearest-le, kept-lt}
 use lib.Ieee.Exact.{HasValue, odd-sign}
-use lib.Ieee.Scale.{round-same, round-val, grid, overflow}
+use lib.Ieee.Scale.{round-same, round-val, grid}
 use lib.Ieee.Order.{drop, kept}
 use lib.Ieee.Nearest.{closest}
 use lib.Ieee.Positive.{num, den, den-pos, positive, value→cross, own-value, mul-at, positive-of-value}
 use Rattle.axis_laws.proofs.SubMono.{cond-no}
-use Rattle.axis_laws.proofs.MulMono.{nonneg, positive-nonneg, le→cross, cross→lt, lt→cross}
+use Rattle.axis_laws.proofs.MulMono.{nonneg, positive-nonneg, le→cross}
 use Rattle.axis_laws.proofs.ClosestNear.{closest-near}
 
 -- a pattern's value

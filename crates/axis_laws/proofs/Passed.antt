@@ -1,16 +1,16 @@
 -- What the tests of document 01 say once they are passed: of a value, of an axis, of a value on an axis. Assumes nothing.
-use mathlib.Core.Path.{_≡_, refl, sym, ap, _∙_, subst}
-use Prim.Native.Nat.{ℕ, zero, suc, _≤_}
+use mathlib.Core.Path.{_≡_, refl, sym, subst}
+use Prim.Native.Nat.{ℕ, suc, _≤_}
 use native.Mathlib.Omega.{arith}
-use mathlib.Core.Bool.{Bool, true, false, not, _&&_, _||_, true≢false}
+use mathlib.Core.Bool.{Bool, true, false, _&&_, _||_}
 use mathlib.Core.List.{[], _∷_}
-use lib.IntN.{pos, negsuc}
+use lib.IntN.{pos}
 use lib.Dec.{T}
 use borrow.Author.Tests.{ltb-false, not-false}
 use lib.Ieee.{Float, fin, le, lt}
 use lib.Ieee.Scale.{finite}
 use Rattle.rules.specs.Sums.{any}
-use Rattle.rules.specs.Refusals.{top2, refuse, valueUnfit, axisThin, nought, width, reversed, outside, orderOver, refuseAxis, refuseCell}
+use Rattle.rules.specs.Refusals.{top2, refuse, valueUnfit, axisThin, reversed, outside, orderOver, refuseAxis, refuseCell}
 use Rattle.laws.proofs.Any.{neither}
 use Rattle.axis_laws.proofs.SubMono.{and-l, and-r}
 use Rattle.axis_laws.proofs.Width.{in-size-finite}
@@ -18,10 +18,6 @@ use Rattle.axis_laws.proofs.Width.{in-size-finite}
 pub passed : (b : Bool) (n later : ℕ) → refuse b (suc n) later ≡ 0 → (b ≡ false) × (later ≡ 0)
 passed true n later e = absurd (omega arith)
 passed false n later e = (refl, e)
-
-pub passes : (b : Bool) (n later : ℕ) → b ≡ false → later ≡ 0 → refuse b n later ≡ 0
-passes true n later p q = absurd (true≢false p)
-passes false n later p q = q
 
 -- A FIT VALUE
 

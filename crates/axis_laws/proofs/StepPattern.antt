@@ -1,14 +1,14 @@
 -- Which bit patterns are those of values that are not negative, and the step down by one. Assumes nothing.
 use mathlib.Core.Path.{_≡_, refl, sym, ap, _∙_, subst}
-use Prim.Native.Nat.{ℕ, suc, _+_, _-_, _*_, _/_, _%_, _^_, _≤_, _<_}
+use Prim.Native.Nat.{ℕ, _+_, _-_, _*_, _/_, _^_, _≤_, _<_}
 use native.Mathlib.Nat.{mod-eq-of-lt}
 use native.Mathlib.Omega.{arith}
-use mathlib.Core.Bool.{Bool, true, false, not, _&&_, _||_, cond, true≢false}
-use lib.Dec.{T, ltb, ltb→lt, lt→ltb, nltb→le}
-use borrow.Author.Tests.{lt-ltb, le-ltb}
-use lib.Ieee.{Float, nan, inf, fin, Format, binary64, prec, low, up, down, size, hid, ones, top, neg, fits, isNan, toBits, ofBits, nanBits}
-use lib.Ieee.Fits.{neg-fits, and-r}
-use lib.Ieee.Bits.{ofBits-toBits, toBits-lt, ofBits-fits, toBits-ofBits, nanBits-is, nanBits-above}
+use mathlib.Core.Bool.{Bool, true, false, not}
+use lib.Dec.{T, ltb, nltb→le}
+use borrow.Author.Tests.{le-ltb}
+use lib.Ieee.{Float, nan, inf, fin, binary64, prec, low, up, down, size, hid, top, neg, fits, isNan, toBits, ofBits, nanBits}
+use lib.Ieee.Fits.{neg-fits}
+use lib.Ieee.Bits.{ofBits-toBits, toBits-lt, toBits-ofBits, nanBits-is, nanBits-above}
 
 -- not negative, an infinity included
 abbrev pub upward : Float → Bool

@@ -1,15 +1,14 @@
 -- A difference x - y with y ≤ x, of any signs, grows with x. A finite value is (plus - less) / den. Assumes nothing.
 use mathlib.Core.Path.{_≡_, refl, sym, ap, _∙_, subst}
 use mathlib.Core.Logic.{inl, inr}
-use Prim.Native.Nat.{ℕ, suc, _+_, _-_, _*_, _^_, _≤_, _<_}
-use native.Mathlib.Nat.{le-trans, le-of-eq, mul-comm, mul-assoc, mul-left-comm, mul-right-comm, mul-le-mul-right, add-mul, zero-mul, mul-pos, mul-sub, mul-add, eq-or-lt-of-le}
+use Prim.Native.Nat.{ℕ, _+_, _-_, _*_, _≤_, _<_}
+use native.Mathlib.Nat.{le-trans, le-of-eq, mul-comm, mul-assoc, mul-left-comm, mul-le-mul-right, add-mul, mul-pos, mul-sub, mul-add, eq-or-lt-of-le}
 use native.Mathlib.Omega.{arith}
 use mathlib.Core.Bool.{Bool, true, false, not, _&&_, _||_, cond}
-use lib.Dec.{T, ltb, eqb, ltb→lt, lt→ltb, nltb→le, eqb→eq}
-use lib.Ieee.{Float, nan, inf, fin, Format, up, down, round, sub, le, lt}
-use lib.Ieee.Fits.{down-pos, up-pos}
+use lib.Dec.{T, ltb, eqb, ltb→lt, lt→ltb, eqb→eq}
+use lib.Ieee.{Float, nan, inf, fin, Format, up, down, round, sub, le}
 use lib.Ieee.Scale.{finite}
-use lib.Ieee.Positive.{num, den, den-pos}
+use lib.Ieee.Positive.{den, den-pos}
 use lib.Ieee.Order.{round-mono}
 
 abbrev pub minus : Float → Bool

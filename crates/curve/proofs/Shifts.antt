@@ -4,7 +4,7 @@ use Prim.Native.Nat.{ℕ, _+_, _*_, _/_, _%_, _^_, _≤_, _<_}
 use mathlib.Core.Path.{_≡_, ap, _∙_, subst}
 use native.Mathlib.Omega.{arith}
 use native.Mathlib.Nat.{one-mul, div-add-mod', mul-le-mul-right, div-lt-iff-lt-mul}
-use lib.Dec.{lit<}
+use lib.Dec.{T, leb, leb→le, lit<}
 use lib.Pow.{shl-exact, pow-pos, shr-shr}
 
 one-shifted : (m : ℕ) → m ≤ 63 → 1 * 2 ^ m % 2 ^ 64 ≡ 2 ^ m
@@ -15,6 +15,13 @@ over m x h t = subst (λ (n : ℕ). n ≤ x) (one-shifted m h) t
 
 pub under : (m x : ℕ) → m ≤ 63 → x < 1 * 2 ^ m % 2 ^ 64 → x < 2 ^ m
 under m x h t = subst (λ (n : ℕ). x < n) (one-shifted m h) t
+
+-- of the side of the cells' square or cube, where the top order is at most 63
+pub off-side : (top order x : ℕ) → order ≤ top → T (leb top 63) → 1 * 2 ^ order % 2 ^ 64 ≤ x → 2 ^ order ≤ x
+off-side top order x o t h = over order x (omega (arith, leb→le top 63 t)) h
+
+pub on-side : (top order x : ℕ) → order ≤ top → T (leb top 63) → x < 1 * 2 ^ order % 2 ^ 64 → x < 2 ^ order
+on-side top order x o t h = under order x (omega (arith, leb→le top 63 t)) h
 
 shifted-twice : (k x : ℕ) → x / 2 ^ k / 2 ^ k ≡ x / 2 ^ (2 * k)
 shifted-twice k x = let e : k + k ≡ 2 * k = omega arith in shr-shr x k k ∙ ap (λ (n : ℕ). x / 2 ^ n) e

@@ -1,6 +1,6 @@
 // The 3D curve.
 ghost use mathlib.Core.Path.{_≡_};
-ghost use Prim.Native.Nat.{_*_, _^_, _≤_, _<_};
+ghost use Prim.Native.Nat.{_≤_, _<_};
 ghost use lib.ListN.{getD};
 ghost use Rattle.rules.specs.Curve.{level, encode, octantTable, space, coordinateOf, encode3, decode3, defaultOrder};
 ghost use Rattle.rules.specs.declared.Cell3.the-variants.{At};

@@ -1,6 +1,6 @@
 -- The round trips of demand 2: decode after encode gives the cell, encode after decode the index, in 2D and in 3D, at every accepted order.
 -- Both machines' rows are permutations, so RoundTrip's laws hold of them. Assumes nothing.
-use Prim.Native.Nat.{ℕ, zero, suc, _*_, _^_, _<_, _≤_}
+use Prim.Native.Nat.{ℕ, zero, suc, _*_, _^_, _<_}
 use mathlib.Core.Path.{_≡_, sym, ap, ap₂, _∙_, subst}
 use native.Mathlib.Nat.{pow-zero, pow-suc, mul-zero, mul-comm}
 use lib.Dec.{lit<}

@@ -6,7 +6,7 @@ use native.Mathlib.Nat.{zero-add, suc-add, zero-mul, mul-assoc, mul-comm, add-mu
 use lib.Arith.{digits-div, digits-mod}
 use lib.Dec.{T}
 use lib.Pow.{pow-add, pow-pos, high, shr-shr}
-use Rattle.rules.specs.Curve.{Machine, part, level, encode, end, groupEntry}
+use Rattle.rules.specs.Curve.{Machine, level, encode, end, groupEntry}
 use Rattle.curve_laws.proofs.Parts.{part-mod, below}
 use Rattle.curve_laws.proofs.Permutes.{permutes, row}
 use Rattle.curve_laws.proofs.RoundTrip.{encode-same, encode-lt}

@@ -8,7 +8,7 @@ use lib.Dec.{lit<}
 use lib.Arith.{digits-lt, digits-div, digits-mod}
 use lib.Bits.{bitAnd, bitOr, and-zero-l, and-block, and-shifted, or-disjoint}
 use lib.Pow.{pow-add, pow-pos, pow-mono, shr-shr}
-use Rattle.rules.specs.Curve.{rest, placed, spread, bit, level, quadrant}
+use Rattle.rules.specs.Curve.{spread, bit, level, quadrant}
 use Rattle.curve_laws.proofs.Parts.{more, quadrant-lt}
 use Rattle.curve_laws.proofs.Spread.{spread-bit, spread-zero}
 

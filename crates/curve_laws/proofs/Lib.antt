@@ -4,10 +4,11 @@ pub mod Or
 pub mod Permutes
 pub mod RoundTrip
 pub mod Refusals
+pub mod Answers
 pub mod NoTwoCellsShareAnIndex
 pub mod Demand2
+pub mod Trips
 pub mod Turns
 pub mod Groups
 pub mod Spread
 pub mod Interleave
-pub mod Trips

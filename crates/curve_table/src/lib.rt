@@ -1,10 +1,12 @@
 // The table of six levels of the 2D curve at once, alone in its crate, since its check is the longest.
 //
 // Entry 4096 * s + z is 4096 * (end state) + (six digits), for the state s and 12 interleaved bits z. That rule is proved once over the
-// whole table, by one computed test; it has one table (proofs/Once.antt, `table-only`).
+// whole table, by one computed test, and only one table keeps it (proofs/Once.antt, `table-only`).
 //
 // A constant of this size is refused by today's compiler, so that the table is the result of a function, and is filled anew at every call:
 // a caller over many cells makes it once, and lends it.
+//
+// The slow machine is that of Célestin Marot, "Parallel tetrahedral mesh generation" (http://hdl.handle.net/2078.1/240626).
 ghost use Rattle.curve_table.specs.Ruled.{Ruled};
 
 // The table. This file is written by `tools/make_table > crates/curve_table/src/lib.rt`.

@@ -7,7 +7,7 @@ use lib.ListN.{length, getD}
 use lib.Ieee.{Float, nan}
 use Rattle.rules.specs.Refusals.{nought, refuseCell}
 use Rattle.rules.specs.Axis.{madeUp, lowOf, highOf, cellOn}
-use Rattle.rules.specs.Knots.{axisOver, knot}
+use Rattle.rules.specs.Knots.{knot}
 use Rattle.rules.specs.declared.Axis.{Axis}
 use Rattle.axis_laws.proofs.AxisAccepts.{accepts, knot-below}
 use Rattle.knots.specs.Over.{Over}

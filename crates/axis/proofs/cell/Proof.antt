@@ -1,12 +1,12 @@
 -- `axis::cell` meets its contract: it makes the tests in the rule's order, so each return knows the ones before it. Assumes nothing.
-use mathlib.Core.Path.{_≡_, refl, sym, ap, _∙_}
+use mathlib.Core.Path.{_≡_, sym, ap, _∙_}
 use mathlib.Core.Bool.{false}
 use lib.Ieee.{Float, lt}
 use borrow.Author.Needs.{needs}
 use Rattle.rules.specs.Refusals.{valueUnfit, refuseCell, cellBy}
-use Rattle.rules.specs.Axis.{madeUp, lowOf, highOf, cellOn, cellOf}
+use Rattle.rules.specs.Axis.{madeUp, lowOf, highOf, cellOf}
 use Rattle.rules.specs.declared.CellAnswer.the-variants as found
-use Rattle.axis_laws.proofs.Passed.{Inside, inside-answered}
+use Rattle.axis_laws.proofs.Passed.{inside-answered}
 use Rattle.axis.proofs.cell.Statement.{statement}
 use Rattle.axis.proofs.cell.Tie as tie
 

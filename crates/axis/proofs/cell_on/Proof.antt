@@ -1,8 +1,7 @@
 -- `axis::cell_on` meets its contract: the axis accepts the value, so the product lies from 0 to 2^order, and its whole part is a u64. Assumes nothing.
 use mathlib.Core.Path.{_≡_, sym, ap, _∙_, subst}
-use Prim.Native.Nat.{ℕ}
 use lib.Dec.{T}
-use lib.Ieee.{Float, binary64, fits}
+use lib.Ieee.{binary64, fits}
 use borrow.Author.Needs.{needs}
 use Rattle.rules.specs.Refusals.{refuseCell}
 use Rattle.rules.specs.Axis.{madeUp, lowOf, highOf, cellOn}

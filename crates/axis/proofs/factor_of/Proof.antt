@@ -1,18 +1,18 @@
 -- `axis::factor_of` meets its contract. The loop's invariant: the descent from f is the descent from the start. Its measure is f's bit pattern.
 -- Assumes nothing.
 use mathlib.Core.Path.{_≡_, refl, sym, ap, _∙_, subst}
-use mathlib.Core.Bool.{Bool, true, false}
+use mathlib.Core.Bool.{Bool}
 use Prim.Native.Nat.{ℕ, _≤_, _<_, _-_, _*_, _%_, _^_}
 use native.Mathlib.Nat.{mod-eq-of-lt, lt-of-le-of-lt, one-mul}
 use native.Mathlib.Omega.{arith}
 use lib.IntN.{pos}
-use lib.Dec.{T, lit<}
+use lib.Dec.{T, lit<, le→leb}
 use lib.Pow.{pow-mono}
-use lib.Ieee.{Float, binary64, fits, toBits, div, ofInt}
+use lib.Ieee.{Float, binary64, fits, toBits, div, ofInt, inFloat}
 use lib.Ieee.Positive.{positive}
 use borrow.Author.Needs.{needs}
 use Rattle.rules.specs.Refusals.{width}
-use Rattle.rules.specs.Axis.{descend, descendFrom, factorOf, cellCount}
+use Rattle.rules.specs.Axis.{descend, descendFrom, factorOf}
 use Rattle.axis_laws.proofs.StepPattern.{last}
 use Rattle.axis_laws.proofs.Width.{cells-positive}
 use Rattle.axis_laws.proofs.Descent.{again, next-fits, next-pattern, descend-stop, descend-step, start-fits, start-pattern}
@@ -29,11 +29,11 @@ abbrev μ-loop : tie.MeasureT-loop
 μ-loop low high order w n f₀ f = toBits binary64 f
 
 -- the code's 1 << order
-shifted : (order : ℕ) → order ≤ 30 → 1 * 2 ^ order % 4294967296 ≡ 2 ^ order
+shifted : (order : ℕ) → order ≤ 30 → 1 * 2 ^ order % 18446744073709551616 ≡ 2 ^ order
 shifted order h =
     let l : 2 ^ order ≤ 2 ^ 30 = pow-mono h in
-    let s : 2 ^ order < 4294967296 = lt-of-le-of-lt l (lit< tt) in
-    ap (λ (z : ℕ). z % 4294967296) (one-mul (2 ^ order)) ∙ mod-eq-of-lt s
+    let s : 2 ^ order < 18446744073709551616 = lt-of-le-of-lt l (lit< tt) in
+    ap (λ (z : ℕ). z % 18446744073709551616) (one-mul (2 ^ order)) ∙ mod-eq-of-lt s
 
 order-fit : (c : tie.Start Inv-loop μ-loop) → c .args .order ≤ 30
 order-fit c = sound _ _ _ (c .pre .0) .order-fit
@@ -41,10 +41,15 @@ order-fit c = sound _ _ _ (c .pre .0) .order-fit
 shl-n : tie.Need-shl-n Inv-loop μ-loop
 shl-n c = let h = order-fit c in search needs
 
-int-to-float-n : tie.Need-int-to-float-n Inv-loop μ-loop
-int-to-float-n c = tt
+-- 2^order counts without a gap
+exact : (order : ℕ) → order ≤ 30 → T (inFloat binary64 (pos (2 ^ order)))
+unfolding inFloat
+exact order h = let k : order ≤ 53 = omega arith in le→leb (2 ^ order) (2 ^ 53) (pow-mono k)
 
-n-positive : (c : tie.Start Inv-loop μ-loop) → T (positive (ofInt binary64 (pos (1 * 2 ^ c .args .order % 4294967296))))
+int-to-float-n : tie.Need-int-to-float-n Inv-loop μ-loop
+int-to-float-n c = subst (λ (z : ℕ). T (inFloat binary64 (pos z))) (sym (shifted _ (order-fit (c .before)))) (exact _ (order-fit (c .before)))
+
+n-positive : (c : tie.Start Inv-loop μ-loop) → T (positive (ofInt binary64 (pos (1 * 2 ^ c .args .order % 18446744073709551616))))
 n-positive c = subst (λ (z : ℕ). T (positive (ofInt binary64 (pos z)))) (sym (shifted _ (order-fit c))) (cells-positive _ (few _ (order-fit c)))
 
 w-positive : (c : tie.Start Inv-loop μ-loop) → T (positive (width (c .args .low) (c .args .high)))
@@ -87,7 +92,7 @@ returns c =
     let start = c .before .before .before in
     let a = start .args in
     let w = width (a .low) (a .high) in
-    let n = ofInt binary64 (pos (1 * 2 ^ a .order % 4294967296)) in
+    let n = ofInt binary64 (pos (1 * 2 ^ a .order % 18446744073709551616)) in
     sym (ap (λ (b : Bool). descend (toBits binary64 f) b n w f) (c .loop-test .left) ∙ descend-stop (toBits binary64 f) n w f)
     ∙ c .before .loop .inv .4
     ∙ ap (λ (z : ℕ). descendFrom (ofInt binary64 (pos z)) w (div binary64 (ofInt binary64 (pos z)) w)) (shifted (a .order) (order-fit start))

@@ -1,7 +1,6 @@
 -- `axis::made_up` meets its contract: the rule's test of the answer goes by its case and that of the record, as the code does. Assumes nothing.
 use mathlib.Core.Path.{_≡_, refl, sym, ap, _∙_}
-use mathlib.Core.Bool.{Bool, not}
-use lib.Ieee.{Float}
+use mathlib.Core.Bool.{not}
 use borrow.Author.Needs.{needs}
 use Rattle.rules.specs.Axis.{madeUp, isAnew, makeAxis, lowOf, highOf, orderOf}
 use Rattle.rules.specs.declared.Axis.{Axis}

@@ -5,7 +5,7 @@ use lib.Ieee.{Float, eq, ofBits}
 use borrow.Author.Needs.{needs}
 use borrow.Author.Tests.{lt-ltb, le-ltb}
 use Rattle.rules.specs.Sums.{any}
-use Rattle.rules.specs.Refusals.{nought, width, valueUnfit, axisThin, refuseAxis, axisBy}
+use Rattle.rules.specs.Refusals.{nought, width, valueUnfit, refuseAxis, axisBy}
 use Rattle.rules.specs.Axis.{makeAxis, axisOf}
 use Rattle.rules.specs.declared.Axis.the-variants.{Sloped}
 use Rattle.rules.specs.declared.AxisAnswer.the-variants as made

@@ -2,7 +2,6 @@
 use mathlib.Core.Path.{sym, refl, subst}
 use mathlib.Core.Bool.{Bool, not}
 use lib.Dec.{T}
-use lib.Ieee.{isNan, toBits, ofBits}
 use borrow.Author.Needs.{needs}
 use Rattle.rules.specs.Axis.{nextDown}
 use Rattle.axis_laws.proofs.StepPattern.{upward-of-pattern, no-nan, step-no-nan}

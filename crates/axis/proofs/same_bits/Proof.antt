@@ -4,7 +4,6 @@ use mathlib.Core.Bool.{Bool, true, false, not, true≢false}
 use lib.Dec.{T}
 use lib.Ieee.{Float, nan, inf, fin, ne, isNan}
 use lib.Ieee.Compare.{differs-from-itself}
-use borrow.Author.Needs.{needs}
 use Rattle.rules.specs.Axis.{sameBits}
 use Rattle.axis.proofs.same_bits.Statement.{statement}
 use Rattle.axis.proofs.same_bits.Tie as tie

@@ -1,6 +1,6 @@
 -- `decode_3d` meets its contract: each way out has the tests that lead there; the table of inverses is what antt computes of its rule.
 -- Assumes nothing.
-use Prim.Native.Nat.{ℕ, _≤_, _*_}
+use Prim.Native.Nat.{_*_}
 use mathlib.Core.Path.{_∙_, sym}
 use native.Mathlib.Omega.{arith}
 use borrow.Author.Needs.{needs}

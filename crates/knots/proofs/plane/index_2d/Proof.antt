@@ -1,0 +1,211 @@
+-- `plane::index_2d` meets its contract: it makes the tests in the rule's order, so each return knows the ones before it; fit points refuse an axis
+-- only for being thin. Assumes nothing.
+use mathlib.Core.Path.{_≡_, refl, sym, _∙_}
+use mathlib.Core.Bool.{Bool, false}
+use mathlib.Core.List.{[], _∷_}
+use Prim.Native.Nat.{_<_}
+use borrow.Author.Needs.{needs}
+use borrow.Author.Tests.{lt-ltb, le-ltb, eq-eqb, ne-eqb}
+use lib.Dec.{ltb, eqb}
+use lib.ListN.{length}
+use Rattle.rules.specs.Sums.{any}
+use Rattle.rules.specs.Refusals.{valueUnfit, refuse, refuseIndexAll}
+use Rattle.rules.specs.Knots.{someUnfit, someThin}
+use Rattle.knots.proofs.Axes.{is-thin, thin-number, over}
+use Rattle.knots.proofs.Filed.{number2, refused2, answered2}
+use Rattle.knots.specs.Over.{Over}
+use Rattle.knots.proofs.plane.index_2d.Statement.{statement}
+use Rattle.knots.proofs.plane.index_2d.Tie as tie
+
+-- where the call began, from the places after its tests of the lengths and of the values
+abbrev after-lengths : tie.Else4 → tie.Start
+after-lengths c = c .before .before .before .before .before .before .before
+
+abbrev after-values : tie.Else6 → tie.Start
+after-values c = after-lengths (c .before .before .before .before)
+
+-- the place where the axis of xs was made, from that of ys
+abbrev x-place : tie.After-y-answer → tie.After-x-answer
+x-place c = c .before .before .before .before
+
+returns : tie.Need-returns
+unfolding refuseIndexAll
+returns c = refused2 _ _ _ _ 0 _ refl (simp (lt-ltb _ _ (c .if1 .taken)))
+
+few : (c : tie.Else1) → ltb 30 (c .before .before .before .before .args .order) ≡ false
+few c = le-ltb _ _ (c .if1 .left)
+
+returns-2 : tie.Need-returns-2
+unfolding refuseIndexAll
+returns-2 c = refused2 _ _ _ _ 3 _ refl (simp (few (c .before), eq-eqb _ _ (c .if2 .taken)))
+
+some : (c : tie.Else2) → eqb (length (c .before .before .before .before .before .args .xs .now)) 0 ≡ false
+some c = ne-eqb _ _ (c .if2 .left)
+
+points : (c : tie.Else2) → 0 < length (c .before .before .before .before .before .args .xs .now)
+points c = let n = c .if2 .left in search needs
+
+returns-3 : tie.Need-returns-3
+unfolding refuseIndexAll any
+returns-3 c = refused2 _ _ _ _ 4 _ refl (simp (few (c .before .before), some (c .before), ne-eqb _ _ (c .if3 .taken)))
+
+returns-4 : tie.Need-returns-4
+unfolding refuseIndexAll any
+returns-4 c =
+    let third = c .before in
+    refused2 _ _ _ _ 4 _ refl (simp (few (third .before .before), some (third .before), eq-eqb _ _ (third .if3 .left), ne-eqb _ _ (c .if4 .taken)))
+
+any-unfit-requires : tie.Need-any-unfit-requires
+any-unfit-requires c κs = search needs
+
+-- 1, 4 and 5 are passed
+lengths-fit : (c : tie.Else4) (unfit thin : Bool)
+    → let a = after-lengths c .args in
+    number2 (a .xs .now) (a .ys .now) (a .order) (a .indices .now) unfit thin ≡ refuse unfit 6 (refuse thin 7 0)
+unfolding refuseIndexAll any
+lengths-fit c unfit thin =
+    let third = c .before in
+    rw (few (third .before .before), some (third .before), eq-eqb _ _ (third .if3 .left), eq-eqb _ _ (c .if4 .left))
+
+returns-5 : tie.Need-returns-5
+unfolding any someUnfit
+returns-5 c = refused2 _ _ _ _ 5 _ refl (lengths-fit (c .before .before) _ _ ∙ rw (sym (c .before .any-unfit .ensures) ∙ c .if5 .taken))
+
+any-unfit-requires-2 : tie.Need-any-unfit-requires-2
+any-unfit-requires-2 c κs = search needs
+
+x-fit : (c : tie.Else5) → any valueUnfit (after-lengths (c .before .before) .args .xs .now) ≡ false
+x-fit c = sym (c .before .any-unfit .ensures) ∙ c .if5 .left
+
+returns-6 : tie.Need-returns-6
+unfolding any someUnfit
+returns-6 c =
+    let fifth = c .before .before in
+    refused2 _ _ _ _ 5 _ refl (lengths-fit (fifth .before .before) _ _ ∙ rw (x-fit fifth, sym (c .before .any-unfit2 .ensures) ∙ c .if6 .taken))
+
+y-fit : (c : tie.Else6) → any valueUnfit (after-values c .args .ys .now) ≡ false
+y-fit c = sym (c .before .any-unfit2 .ensures) ∙ c .if6 .left
+
+axis-over-requires : tie.Need-axis-over-requires
+axis-over-requires c κs = search needs
+
+enum-known-x-answer : tie.Need-enum-known-x-answer
+enum-known-x-answer c = search needs
+
+enum-told : tie.Need-enum-told
+enum-told c = search needs
+
+number-of-requires : tie.Need-number-of-requires
+number-of-requires c κs = search needs
+
+-- 6 is passed too
+values-fit : (c : tie.Else6) (thin : Bool)
+    → let a = after-values c .args in
+    number2 (a .xs .now) (a .ys .now) (a .order) (a .indices .now) (someUnfit (a .xs .now ∷ a .ys .now ∷ [])) thin ≡ refuse thin 7 0
+unfolding any someUnfit
+values-fit c thin =
+    let fifth = c .before .before in
+    lengths-fit (fifth .before .before) _ thin ∙ rw (x-fit fifth, y-fit c)
+
+returns-7 : tie.Need-returns-7
+unfolding any someThin
+returns-7 c =
+    let made = c .before .before .before in
+    let fifth = made .before .before .before in
+    let second = fifth .before .before .before .before in
+    let told = c .before .enum-told .given .1 in
+    let number = thin-number _ _ _ _ refl (points second) (x-fit fifth) (second .before .if1 .left) (made .axis-over .ensures) _ _ told (c .number-of .ensures) in
+    let thin = is-thin _ _ _ _ refl (points second) (x-fit fifth) (second .before .if1 .left) (made .axis-over .ensures) _ told in
+    refused2 _ _ _ _ 6 _ number (values-fit (made .before) _ ∙ rw thin)
+
+axis-over-requires-2 : tie.Need-axis-over-requires-2
+axis-over-requires-2 c κs = search needs
+
+enum-known-y-answer : tie.Need-enum-known-y-answer
+enum-known-y-answer c = search needs
+
+enum-told-2 : tie.Need-enum-told-2
+enum-told-2 c = search needs
+
+number-of-requires-2 : tie.Need-number-of-requires-2
+number-of-requires-2 c κs = search needs
+
+-- the axis of xs is made over them
+x-over : (c : tie.After-x-answer)
+    → let a = after-values (c .before .before .before) .args in
+    Over (a .xs .now) (length (a .xs .now)) (a .order) (c .x-answer .given .0 .0)
+x-over c =
+    let made = c .before .before in
+    let fifth = made .before .before .before in
+    let second = fifth .before .before .before .before in
+    over _ _ _ _ refl (points second) (x-fit fifth) (second .before .if1 .left) (made .axis-over .ensures) _ (c .x-answer .given .1)
+
+returns-8 : tie.Need-returns-8
+unfolding any someThin
+returns-8 c =
+    let made = c .before .before .before in
+    let first = made .before .before in
+    let sixth = first .before .before .before in
+    let third = sixth .before .before .before .before .before in
+    let second = third .before in
+    let told = c .before .enum-told2 .given .1 in
+    let number = thin-number _ _ _ _ (third .if3 .left) (points second) (y-fit sixth) (second .before .if1 .left) (made .axis-over2 .ensures) _ _ told (c .number-of2 .ensures) in
+    let thin = is-thin _ _ _ _ (third .if3 .left) (points second) (y-fit sixth) (second .before .if1 .left) (made .axis-over2 .ensures) _ told in
+    refused2 _ _ _ _ 6 _ number (values-fit sixth _ ∙ rw (x-over first .thick, thin))
+
+-- and that of ys over ys
+y-over : (c : tie.After-y-answer)
+    → let a = after-values (x-place c .before .before .before) .args in
+    Over (a .ys .now) (length (a .xs .now)) (a .order) (c .y-answer .given .0 .0)
+y-over c =
+    let made = c .before .before in
+    let sixth = made .before .before .before .before .before in
+    let third = sixth .before .before .before .before .before in
+    let second = third .before in
+    over _ _ _ _ (third .if3 .left) (points second) (y-fit sixth) (second .before .if1 .left) (made .axis-over2 .ensures) _ (c .y-answer .given .1)
+
+write-2d-requires : tie.Need-write-2d-requires
+write-2d-requires c κs =
+    let second-axis = c .before .before in
+    let first-axis = x-place second-axis in
+    let fourth = first-axis .before .before .before .before .before .before .before in
+    let second = fourth .before .before in
+    ((points second, second .before .if1 .left), (x-over first-axis, (y-over second-axis, fourth .if4 .left)))
+
+same-length : tie.Need-same-length
+same-length c = search needs
+
+returns-9 : tie.Need-returns-9
+unfolding any someThin
+returns-9 c =
+    let written = c .before .before in
+    let second-axis = written .before .before .before in
+    let first-axis = x-place second-axis in
+    answered2 _ _ _ _ _ _ (written .write-2d .ensures .0) (written .write-2d .ensures .1)
+    (values-fit (first-axis .before .before .before) _ ∙ rw (x-over first-axis .thick, y-over second-axis .thick))
+
+pub index-2d-spec : {M : Type 1} → statement M
+index-2d-spec =
+    tie.close
+    (tie.spec
+    returns
+    returns-2
+    returns-3
+    returns-4
+    any-unfit-requires
+    returns-5
+    any-unfit-requires-2
+    returns-6
+    axis-over-requires
+    enum-known-x-answer
+    enum-told
+    number-of-requires
+    returns-7
+    axis-over-requires-2
+    enum-known-y-answer
+    enum-told-2
+    number-of-requires-2
+    returns-8
+    write-2d-requires
+    same-length
+    returns-9)
