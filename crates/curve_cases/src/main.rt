@@ -24,6 +24,7 @@ fn main() {
     deposits();
 }
 
+// A1 to A7, there and back.
 fn named_2d() {
     trip_2d(b"A1", 0, 0, 0);
     trip_2d(b"A2", 1, 0, 1);
@@ -34,17 +35,20 @@ fn named_2d() {
     trip_2d(b"A7", 1073741823, 0, 30);
 }
 
+// B1 and B2, there and back.
 fn named_3d() {
     trip_3d(b"B1", 1, 1, 1, 1);
     trip_3d(b"B2", 3, 0, 0, 2);
 }
 
+// The cases that document 01 leaves to a program.
 fn by_program() {
     encode_2d(b"over the side", 1073741824, 0, 30);
     encode_2d(b"order first", 1073741824, 0, 31);
     decode_3d(b"over the cube", 8, 1);
 }
 
+// Orders, coordinates and indices just over the end, and the largest there are; and the last index, which is answered.
 fn bad_2d() {
     encode_2d(b"order 31", 0, 0, 31);
     encode_2d(b"largest order", 0, 0, ALL_ONES_32);
@@ -60,6 +64,7 @@ fn bad_2d() {
     decode_2d(b"largest index", ALL_ONES, 30);
 }
 
+// The same in 3D.
 fn bad_3d() {
     encode_3d(b"order 22", 0, 0, 0, 22);
     encode_3d(b"largest order", 0, 0, 0, ALL_ONES_32);
@@ -103,6 +108,7 @@ fn defaults() {
     cell_3d(curve::decode_3d_default(68719476736));
 }
 
+// Deposits with nothing to place, nowhere to place it, and more than there is room for.
 fn deposits() {
     deposit(b"no place", ALL_ONES, 0);
     deposit(b"no bit", 0, ALL_ONES);
@@ -111,31 +117,32 @@ fn deposits() {
     deposit(b"every other place", 5, 12297829382473034410);
 }
 
-// The name of a case, and the call.
+// Writes the name of a case, and of the call.
 fn asked(name: &[u8], call: &[u8]) {
     io::write_all(STDOUT_FILENO, name);
     io::write_all(STDOUT_FILENO, b": ");
     io::write_all(STDOUT_FILENO, call);
 }
 
-// A space, and a number.
+// Writes a space, and a number.
 fn put(n: u64) {
     io::write_all(STDOUT_FILENO, b" ");
     io::print_decimal(STDOUT_FILENO, n);
 }
 
-// The number of refusal, before the values.
+// Writes the number of refusal, before the values.
 fn answered(number: u32) {
     io::write_all(STDOUT_FILENO, b" gives");
     put(number as u64);
     io::write_all(STDOUT_FILENO, b",");
 }
 
+// The end of a line.
 fn end() {
     io::write_all(STDOUT_FILENO, b"\n");
 }
 
-// An encoder's answer, which is handed on as its index, 0 if refused.
+// Writes an encoder's answer, and returns its index, 0 if refused.
 fn coded(answer: Coded) -> u64
     ensures { λ r. ⌜ r ≡ readCoded answer .value ⌝ }
 {
@@ -155,7 +162,7 @@ fn coded(answer: Coded) -> u64
     }
 }
 
-// A 2D decoder's answer.
+// Writes a 2D decoder's answer.
 fn cell_2d(answer: Cell2) {
     match answer {
         Cell2::At(x, y) => {
@@ -172,7 +179,7 @@ fn cell_2d(answer: Cell2) {
     end();
 }
 
-// A 3D decoder's answer.
+// Writes a 3D decoder's answer.
 fn cell_3d(answer: Cell3) {
     match answer {
         Cell3::At(x, y, z) => {
@@ -191,7 +198,7 @@ fn cell_3d(answer: Cell3) {
     end();
 }
 
-// A cell encoded: its index, 0 if refused.
+// Asks for the index of a 2D cell, and returns it, 0 if refused.
 fn encode_2d(name: &[u8], x: u64, y: u64, order: u32) -> u64 {
     asked(name, b"encode_2d");
     put(x);
@@ -200,6 +207,7 @@ fn encode_2d(name: &[u8], x: u64, y: u64, order: u32) -> u64 {
     coded(curve::encode_2d(x, y, order))
 }
 
+// Asks for the index of a 3D cell, and returns it, 0 if refused.
 fn encode_3d(name: &[u8], x: u64, y: u64, z: u64, order: u32) -> u64 {
     asked(name, b"encode_3d");
     put(x);
@@ -209,6 +217,7 @@ fn encode_3d(name: &[u8], x: u64, y: u64, z: u64, order: u32) -> u64 {
     coded(curve::encode_3d(x, y, z, order))
 }
 
+// Asks for the 2D cell of an index.
 fn decode_2d(name: &[u8], index: u64, order: u32) {
     asked(name, b"decode_2d");
     put(index);
@@ -216,6 +225,7 @@ fn decode_2d(name: &[u8], index: u64, order: u32) {
     cell_2d(curve::decode_2d(index, order));
 }
 
+// Asks for the 3D cell of an index.
 fn decode_3d(name: &[u8], index: u64, order: u32) {
     asked(name, b"decode_3d");
     put(index);
@@ -223,17 +233,19 @@ fn decode_3d(name: &[u8], index: u64, order: u32) {
     cell_3d(curve::decode_3d(index, order));
 }
 
-// A cell encoded, and its index decoded.
+// Asks for the index of a 2D cell, and for the cell of that index.
 fn trip_2d(name: &[u8], x: u64, y: u64, order: u32) {
     let index = encode_2d(name, x, y, order);
     decode_2d(name, index, order);
 }
 
+// Asks for the index of a 3D cell, and for the cell of that index.
 fn trip_3d(name: &[u8], x: u64, y: u64, z: u64, order: u32) {
     let index = encode_3d(name, x, y, z, order);
     decode_3d(name, index, order);
 }
 
+// Asks for a deposit.
 fn deposit(name: &[u8], source: u64, mask: u64) {
     asked(name, b"deposit");
     put(source);
