@@ -43,7 +43,7 @@ half-is t h = div-two (round binary64 false t 1) t (whole-value t h)
 
 -- ---- a rounded fraction a / c, and its whole part
 
-whole-is : (z : Float) → T (positive z) → num z / den z < 2 ^ 64 → toUnsigned 64 z ≡ num z / den z
+pub whole-is : (z : Float) → T (positive z) → num z / den z < 2 ^ 64 → toUnsigned 64 z ≡ num z / den z
 unfolding toUnsigned
 whole-is nan p h = absurd p
 whole-is (inf s) p h = absurd p
@@ -124,7 +124,7 @@ times t y b h s p v = rw (half-is t s) (mul-at binary64 (round binary64 false t 
 lo-sits : (t m n : ℕ) → 0 < t → t < 2 ^ 45 → 200 * m + 1 ≤ 99 * t → 99 * t + 1 ≤ 200 * n → n ≤ t → Sits (round binary64 false (t * 4458563631096791) (2 * 2 ^ 52)) m (256 * n - 1)
 lo-sits t m n h s l u b = sits (t * 4458563631096791) (2 * 2 ^ 52) m (256 * n - 1) (lit< tt) (omega arith) (omega arith) (omega arith) (omega arith) (omega arith) (omega arith)
 
-hi-sits : (t m n : ℕ) → 0 < t → t < 2 ^ 45 → 200 * m + 1 ≤ 101 * t → 101 * t + 1 ≤ 200 * n → n ≤ t → Sits (round binary64 false (t * 4548635623644201) (2 * 2 ^ 52)) m (256 * n - 1)
+hi-sits : (t m n : ℕ) → 0 < t → t < 2 ^ 45 → 200 * m ≤ 101 * t → 101 * t + 1 ≤ 200 * n → n ≤ t → Sits (round binary64 false (t * 4548635623644201) (2 * 2 ^ 52)) m (256 * n - 1)
 hi-sits t m n h s l u b = sits (t * 4548635623644201) (2 * 2 ^ 52) m (256 * n - 1) (lit< tt) (omega arith) (omega arith) (omega arith) (omega arith) (omega arith) (omega arith)
 
 -- the f64 whose fraction is dropped
@@ -134,17 +134,17 @@ loFloat t = mul binary64 (half t) (sub binary64 one hundredth)
 abbrev pub hiFloat : ℕ → Float
 hiFloat t = mul binary64 (half t) (add binary64 one hundredth)
 
-lo-float : (t : ℕ) → 0 < t → t < 2 ^ 45 → loFloat t ≡ round binary64 false (t * 4458563631096791) (2 * 2 ^ 52)
+pub lo-float : (t : ℕ) → 0 < t → t < 2 ^ 45 → loFloat t ≡ round binary64 false (t * 4458563631096791) (2 * 2 ^ 52)
 lo-float t h s = rw less (times t (fin false 4458563631096791 (negsuc 51)) 4458563631096791 h (omega arith) tt (refl, refl))
 
 hi-float : (t : ℕ) → 0 < t → t < 2 ^ 45 → hiFloat t ≡ round binary64 false (t * 4548635623644201) (2 * 2 ^ 52)
 hi-float t h s = rw more (times t (fin false 4548635623644201 (negsuc 51)) 4548635623644201 h (omega arith) tt (refl, refl))
 
-lo-at : (t : ℕ) → 0 < t → t < 2 ^ 45 → Sits (loFloat t) ((99 * t - 1) / 200) (256 * (99 * t / 200 + 1) - 1)
+pub lo-at : (t : ℕ) → 0 < t → t < 2 ^ 45 → Sits (loFloat t) ((99 * t - 1) / 200) (256 * (99 * t / 200 + 1) - 1)
 lo-at t h s = rw (lo-float t h s) (lo-sits t ((99 * t - 1) / 200) (99 * t / 200 + 1) h s (omega arith) (omega arith) (omega arith))
 
-hi-at : (t : ℕ) → 0 < t → t < 2 ^ 45 → Sits (hiFloat t) ((101 * t - 1) / 200) (256 * (101 * t / 200 + 1) - 1)
-hi-at t h s = rw (hi-float t h s) (hi-sits t ((101 * t - 1) / 200) (101 * t / 200 + 1) h s (omega arith) (omega arith) (omega arith))
+hi-at : (t : ℕ) → 0 < t → t < 2 ^ 45 → Sits (hiFloat t) (101 * t / 200) (256 * (101 * t / 200 + 1) - 1)
+hi-at t h s = rw (hi-float t h s) (hi-sits t (101 * t / 200) (101 * t / 200 + 1) h s (omega arith) (omega arith) (omega arith))
 
 pub lo-limits : (t : ℕ) → t < 2 ^ 45 → (200 * loOf t ≤ 99 * t) × (99 * t ≤ 200 * loOf t + 200)
 unfolding loOf
@@ -170,19 +170,15 @@ unfolding lt mul half one hundredth add
 hi-drops zero h = (tt, tt)
 hi-drops (suc t) h = droppable (hiFloat (suc t)) _ _ (101 * suc t / 200 + 1) (hi-at (suc t) (omega arith) h) (omega arith) (omega arith)
 
--- the sharp form, from which lo ≤ hi
+-- lo is the whole part of 99T / 200, or one less where that is a whole number; hi is the whole part of 101T / 200
 pub lo-sharp : (t : ℕ) → 0 < t → t < 2 ^ 45 → ((99 * t - 1) / 200 ≤ loOf t) × (loOf t ≤ 99 * t / 200)
 unfolding loOf
 lo-sharp t h s =
     let p = part (loFloat t) _ _ (99 * t / 200 + 1) (lo-at t h s) (omega arith) (omega arith) in
     (p .0, omega (arith, p .1))
 
-pub hi-sharp : (t : ℕ) → 0 < t → t < 2 ^ 45 → ((101 * t - 1) / 200 ≤ hiOf t) × (hiOf t ≤ 101 * t / 200)
+pub hi-sharp : (t : ℕ) → 0 < t → t < 2 ^ 45 → hiOf t ≡ 101 * t / 200
 unfolding hiOf
 hi-sharp t h s =
     let p = part (hiFloat t) _ _ (101 * t / 200 + 1) (hi-at t h s) (omega arith) (omega arith) in
-    (p .0, omega (arith, p .1))
-
-pub lo-le-hi : (t : ℕ) → t < 2 ^ 45 → loOf t ≤ hiOf t
-lo-le-hi zero h = omega (arith, lo-limits 0 h, hi-limits 0 h)
-lo-le-hi (suc t) h = omega (arith, lo-sharp (suc t) (omega arith) h, hi-sharp (suc t) (omega arith) h)
+    omega (arith, p .0, p .1)
