@@ -5,16 +5,15 @@ use native.Mathlib.Omega.{arith}
 use mathlib.Core.Logic.{⊎-elim}
 use native.Mathlib.Nat.{eq-zero-or-pos, div-lt-iff-lt-mul, le-div-iff-mul-le, lt-of-lt-of-le, le-of-mul-le-mul-right, mul-pos, mul-assoc, mul-right-comm, le-trans, le-of-eq, mul-le-mul-right, mul-lt-mul-of-pos-right}
 use mathlib.Core.Path.{_≡_, refl, ap, sym, _∙_}
-use mathlib.Core.Bool.{true, false}
-use lib.Dec.{T, lit<, lit≤}
+use mathlib.Core.Bool.{false}
+use lib.Dec.{T, lit<}
 use lib.Pow.{pow-pos, pow-add, pow-mono}
-use lib.Ieee.{Float, nan, inf, fin, binary64, round, size, nearest}
+use lib.Ieee.{Float, nan, inf, fin, binary64, round, size}
 use lib.Ieee.Digits.{size-lt, size-le}
 use lib.Ieee.Exact.{HasValue}
 use lib.Ieee.Nearest.{closest, closest-mono}
-use lib.Ieee.Order.{drop, kept}
 use lib.Ieee.Scale.{grid, finite, round-val, round-under}
-use lib.Ieee.Positive.{num, den, den-pos, positive, value→cross}
+use lib.Ieee.Positive.{num, den, positive, value→cross}
 use Rattle.rules.specs.Halving.{loOf, hiOf}
 use Rattle.halving_laws.proofs.LoHi.{loFloat, lo-float, lo-at, part, hi-sharp, lo-sharp}
 

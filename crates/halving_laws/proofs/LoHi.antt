@@ -1,21 +1,22 @@
--- The whole part of a rounded fraction, between whole numbers.
-use Prim.Native.Nat.{ℕ, zero, suc, _+_, _-_, _*_, _/_, _^_, _≤_, _<_, min}
+-- The limits of lo and hi. Rounding is monotone, and whole numbers and 256ths are f64 themselves: a product that lies between two of them is
+-- rounded to one between them.
+use Prim.Native.Nat.{ℕ, zero, suc, _+_, _-_, _*_, _/_, _^_, _≤_, _<_}
 use native.Mathlib.Omega.{arith}
-use native.Mathlib.Nat.{div-lt-iff-lt-mul, le-div-iff-mul-le, mul-assoc, mul-one, lt-of-lt-of-le, min-eq-left, mul-le-mul-right, le-of-lt}
-use mathlib.Core.Path.{_≡_, refl, ap, sym, subst, _∙_}
-use mathlib.Core.Bool.{Bool, true, false, true≢false}
-use lib.IntN.{ℤ, pos, negsuc}
+use native.Mathlib.Nat.{div-lt-iff-lt-mul, le-div-iff-mul-le, mul-assoc, lt-of-lt-of-le, min-eq-left, mul-le-mul-right}
+use mathlib.Core.Path.{_≡_, refl, ap, sym}
+use mathlib.Core.Bool.{true, false, true≢false}
+use lib.IntN.{pos, negsuc}
 use lib.Dec.{T, lit<, lit≤, lt→ltb}
-use lib.Pow.{pow-pos, shl-lt}
-use lib.Ieee.{Float, nan, inf, fin, Format, binary64, ofInt, div, mul, sub, add, round, le, lt, toUnsigned, prec, emax, low, up, down}
+use lib.Pow.{shl-lt}
+use lib.Ieee.{Float, nan, inf, fin, binary64, ofInt, div, mul, sub, add, round, le, lt, toUnsigned, low, up, down}
 use lib.Ieee.Fits.{down-pos}
 use lib.Ieee.Exact.{HasValue, round-exact}
 use lib.Ieee.Order.{round-mono}
 use lib.Ieee.Scale.{round-same}
-use lib.Ieee.Positive.{num, den, den-pos, positive, positive-of-value, own-value, values-of-le, value→cross, between, mul-at}
+use lib.Ieee.Positive.{num, den, den-pos, positive, positive-of-value, own-value, values-of-le, between, mul-at}
 use Rattle.rules.specs.Halving.{one, two, half, hundredth, loOf, hiOf}
 
--- ---- fractions that the format holds as they are
+-- Fractions that the format holds as they are.
 
 whole-value : (n : ℕ) → n < 2 ^ 53 → HasValue (round binary64 false n 1) false n 1
 whole-value n h = round-exact binary64 false n 1 n 1074 (lit< tt) h (lt-of-lt-of-le (shl-lt 53 1074 h) (lit≤ tt)) (sym (mul-assoc n (2 ^ 1074) 1))
@@ -26,7 +27,7 @@ half-value n h = round-exact binary64 false n 2 n 1073 (lit< tt) h (lt-of-lt-of-
 byte-value : (n : ℕ) → n < 2 ^ 53 → HasValue (round binary64 false n 256) false n 256
 byte-value n h = round-exact binary64 false n 256 n 1066 (lit< tt) h (lt-of-lt-of-le (shl-lt 53 1066 h) (lit≤ tt)) (sym (mul-assoc n (2 ^ 1066) 256))
 
--- ---- a whole number halved
+-- A whole number halved.
 
 div-two : (x : Float) (a : ℕ) → HasValue x false a 1 → div binary64 x two ≡ round binary64 false a 2
 unfolding div two
@@ -41,7 +42,7 @@ half-is : (t : ℕ) → t < 2 ^ 53 → half t ≡ round binary64 false t 2
 unfolding half ofInt
 half-is t h = div-two (round binary64 false t 1) t (whole-value t h)
 
--- ---- a rounded fraction a / c, and its whole part
+-- A rounded fraction a / c, and its whole part.
 
 pub whole-is : (z : Float) → T (positive z) → num z / den z < 2 ^ 64 → toUnsigned 64 z ≡ num z / den z
 unfolding toUnsigned
@@ -106,7 +107,7 @@ droppable z m k n s e f =
     let b : n ≤ 2 ^ 64 = omega arith in
     (negative z (s .above), under z (s .above) (lt-of-lt-of-le g (mul-le-mul-right (den z) b)))
 
--- ---- the bounds
+-- The limits.
 
 -- 1 - 0.01 and 1 + 0.01
 less : sub binary64 one hundredth ≡ fin false 4458563631096791 (negsuc 51)
