@@ -5,9 +5,8 @@ use native.Mathlib.Nat.{mul-le-mul-left}
 use mathlib.Core.Path.{_≡_}
 use mathlib.Core.List.{List}
 use lib.ListN.{getD, length}
-use Rattle.rules.specs.Sums.{total}
 use Rattle.halving_laws.proofs.Totals.{total-more, total-le}
-use Rattle.cuts.specs.Solid.{runSum, sheetSum, solidSum, Light, RunFits, SheetFits, SolidFits}
+use Rattle.cuts.specs.Solid.{runSum, sheetSum, solidSum, Light, RunFits, SheetFits}
 
 module _ (ws : List ℕ) (light : Light ws) where
   pub run-light : (start n : ℕ) → start + n ≤ length ws → runSum ws start n ≤ 16777215 * n

@@ -1,7 +1,7 @@
 -- The cut of a subgrid's lines is the rule's cut of its block, and it leaves two sound subgrids.
 use Prim.Native.Nat.{ℕ, _+_, _-_, _≤_, _<_}
 use native.Mathlib.Omega.{arith}
-use mathlib.Core.Path.{_≡_, refl, ap, sym, _∙_}
+use mathlib.Core.Path.{_≡_, ap, sym, _∙_}
 use mathlib.Core.List.{List}
 use Rattle.rules.specs.Grid.{weight, line}
 use Rattle.rules.specs.Halving.{loOf, hiOf, cutAt}
@@ -14,7 +14,7 @@ use Rattle.cuts.specs.SubGrids.{Shape, plane, space, Axis, acrossX, acro
 use Rattle.cuts.specs.declared.subgrid.Grid.{Grid}
 use Rattle.cuts.specs.declared.subgrid.SubGrid.{SubGrid}
 use Rattle.cuts.proofs.SubGrids.{block-side, block-edge, block-left, block-right, block-thin, no-below}
-use Rattle.cuts.proofs.Solids.{weight-is-solid, lies-lines, lies-left, side-fits}
+use Rattle.cuts.proofs.Solids.{weight-is-solid, lies-lines, lies-left}
 
 flat-slab : (s : Shape) (ax : Axis) (b : SubGrid) (i : ℕ) → Has s ax → Flat s b → Flat s (slab ax b i)
 flat-slab plane acrossX b i h f = f

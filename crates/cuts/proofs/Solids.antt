@@ -1,10 +1,10 @@
 -- The weight of a subgrid is the sum of its solid, and the solids of its lines can be summed.
-use Prim.Native.Nat.{ℕ, suc, _+_, _-_, _*_, _≤_, _<_}
+use Prim.Native.Nat.{ℕ, _+_, _-_, _*_, _≤_, _<_}
 use native.Mathlib.Omega.{arith}
 use native.Mathlib.Nat.{mul-le-mul-left, mul-le-mul, zero-add}
-use mathlib.Core.Path.{_≡_, refl, ap, ap₂, sym, _∙_}
+use mathlib.Core.Path.{_≡_, ap, sym, _∙_}
 use mathlib.Core.List.{List, [], _∷_}
-use lib.ListN.{getD, length}
+use lib.ListN.{getD}
 use Rattle.rules.specs.Sums.{total}
 use Rattle.rules.specs.Grid.{Range, weight}
 use Rattle.halving_laws.proofs.Totals.{total-ext}
@@ -13,7 +13,7 @@ use Rattle.halving_laws.proofs.Nested.{nest, nest-end}
 use Rattle.rules.specs.Halving.{loOf, hiOf}
 use Rattle.cuts.specs.Solid.{runSum, sheetSum, solidSum, lineOf, LinesAre, SolidFits, LinesFit}
 use Rattle.cuts.specs.Median.{lineAt, CutIs}
-use Rattle.cuts.specs.SubGrids.{Shape, plane, space, Axis, acrossX, acrossY, acrossZ, sidesOf, from, blockOf, start, stride, side, slab, lines, leftPart, rightPart, solid, Readable, Lies, Flat}
+use Rattle.cuts.specs.SubGrids.{Shape, plane, space, Axis, acrossX, acrossY, acrossZ, sidesOf, from, blockOf, start, stride, side, slab, lines, leftPart, solid, Readable, Lies, Flat}
 use Rattle.cuts.specs.declared.subgrid.Grid.{Grid}
 use Rattle.cuts.specs.declared.subgrid.SubGrid.{SubGrid}
 use Rattle.cuts.proofs.Bounds.{solid-light}

@@ -8,7 +8,7 @@ use lib.Dec.{lit≤}
 use lib.ListN.{length, set}
 use Rattle.rules.specs.Grid as grid
 use Rattle.rules.specs.Grid.{Range, Block}
-use Rattle.rules.specs.Halving.{edition1, nextAxis, fill}
+use Rattle.rules.specs.Halving.{edition1, nextAxis}
 use Rattle.halving_laws.proofs.Nested.{thin}
 use Rattle.halving_laws.proofs.Steps.{fill-end, fill-flat, fill-cut}
 use Rattle.cuts.specs.SubGrids.{Shape, plane, space, Axis, acrossX, acrossY, acrossZ, Has, no, inTurn, sidesOf, from, blockOf, side, edge, slab, leftPart, rightPart, tree, CutOn}

@@ -1,12 +1,12 @@
 -- The ids that the code finds are those of the rules.
-use Prim.Native.Nat.{ℕ, zero, suc, _+_, _*_, _/_, _%_, _≤_, _<_}
+use Prim.Native.Nat.{ℕ, zero, suc, _*_, _/_, _%_, _<_}
 use native.Mathlib.Omega.{arith}
 use native.Mathlib.Nat.{mod-eq-of-lt, div-lt-iff-lt-mul}
-use mathlib.Core.Path.{_≡_, refl, ap, ap₂, sym, _∙_}
+use mathlib.Core.Path.{_≡_, refl, ap, sym, _∙_}
 use mathlib.Core.List.{List, [], _∷_}
 use Rattle.rules.specs.Sums.{list}
 use Rattle.rules.specs.Grid.{cells, coords, on}
-use Rattle.rules.specs.Halving.{nextAxis, cut, walk, idOf, idsOf}
+use Rattle.rules.specs.Halving.{nextAxis, walk, idOf, idsOf}
 use Rattle.halving_laws.proofs.Ids.{next-lt}
 use Rattle.halving.specs.Parts.{idOn, idAt}
 use Rattle.laws.proofs.Lists.{list-ext}

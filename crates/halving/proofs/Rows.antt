@@ -1,12 +1,11 @@
 -- Laws of elements and rows written where they lie.
-use Prim.Native.Nat.{ℕ, zero, suc, _+_, _-_, _*_, _/_, _%_, _≤_, _<_}
+use Prim.Native.Nat.{ℕ, _+_, _-_, _*_, _/_, _%_, _≤_, _<_}
 use native.Mathlib.Omega.{arith}
-use native.Mathlib.Numerals.{add-one}
-use native.Mathlib.Nat.{add-zero, add-suc, mul-add-mod-self-left, mul-add-div, mod-eq-of-lt, div-eq-of-lt}
-use mathlib.Core.Path.{_≡_, refl, ap, ap₂, sym, _∙_}
-use mathlib.Core.List.{List, [], _∷_, _++_, append-assoc}
-use lib.ListN.{length, getD, take, drop, set}
-use lib.Seq.{drop-cons, set-at, take-at, drop-append-add, drop-drop}
+use native.Mathlib.Nat.{add-zero, mul-add-mod-self-left, mul-add-div, mod-eq-of-lt, div-eq-of-lt}
+use mathlib.Core.Path.{_≡_, ap, ap₂, sym, _∙_}
+use mathlib.Core.List.{List, _++_, append-assoc}
+use lib.ListN.{length, take, drop}
+use lib.Seq.{take-at, drop-append-add, drop-drop}
 use borrow.Rule.Slice.PartMut.{putMid, post-is}
 use Rattle.rules.specs.Sums.{list}
 use Rattle.laws.proofs.Lists.{length-list, list-ext, list-split}

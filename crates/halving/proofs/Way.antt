@@ -2,7 +2,7 @@
 use Prim.Native.Nat.{ℕ, zero, suc, _+_, _-_, _*_, _%_, _≤_, _<_}
 use native.Mathlib.Omega.{arith}
 use native.Mathlib.Nat.{add-zero}
-use mathlib.Core.Path.{_≡_, refl, ap, sym, _∙_}
+use mathlib.Core.Path.{_≡_, refl, sym, _∙_}
 use mathlib.Core.List.{List, [], _∷_}
 use lib.ListN.{length, getD}
 use borrow.Author.Tests.{lt-ltb, le-ltb}
@@ -10,7 +10,6 @@ use Rattle.rules.specs.Halving.{uncut, cut, nextAxis, turn, walk}
 use Rattle.halving_laws.specs.Nodes.{Places}
 use Rattle.halving_laws.proofs.Ids.{next-lt}
 use Rattle.halving_laws.proofs.Steps.{place-here, first-places, second-places}
-use Rattle.halving.specs.Parts.{Axes}
 
 -- inside a list the value past its end does not matter
 pub any-default : (s : List ℕ) (i d e : ℕ) → i < length s → getD s i d ≡ getD s i e

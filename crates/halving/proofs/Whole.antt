@@ -1,19 +1,18 @@
 -- The grid of a call that is not refused is a sound block, and its splits have places for all nodes.
-use Prim.Native.Nat.{ℕ, _+_, _-_, _*_, _^_, _≤_, _<_}
+use Prim.Native.Nat.{ℕ, _-_, _*_, _^_, _≤_}
 use native.Mathlib.Omega.{arith}
 use native.Mathlib.Nat.{zero-add, mul-one}
 use mathlib.Core.Path.{_≡_, refl, ap, sym, _∙_}
-use mathlib.Core.List.{List, [], _∷_}
+use mathlib.Core.List.{List}
 use lib.Dec.{lit≤}
-use lib.ListN.{getD, length}
+use lib.ListN.{length}
 use lib.Pow.{pow-mono}
-use Rattle.rules.specs.Grid.{cells, whole, allWeight, weight}
+use Rattle.rules.specs.Grid.{cells, whole, weight}
 use Rattle.halving_laws.specs.Nodes.{Places}
 use Rattle.halving_laws.specs.Accepted.{Accepted}
 use Rattle.halving_laws.proofs.Heap.{room-root}
 use Rattle.halving_laws.proofs.Weights.{weight-at-most-all}
 use Rattle.halving_laws.proofs.Demand3.{weight-fits}
-use Rattle.cuts.specs.Solid.{Light}
 use Rattle.cuts.specs.SubGrids.{Shape, plane, space, sidesOf, blockOf, solid, wholeOf, Readable, Lies, Flat, Sound}
 use Rattle.halving.specs.Calls.{halvingOf, Layered}
 use Rattle.cuts.specs.declared.subgrid.Grid.{Grid}

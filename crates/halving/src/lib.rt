@@ -1,8 +1,18 @@
-// Halving a grid.
-pub mod parts;
-pub mod plane;
-pub mod refusals;
-pub mod space;
+// Halving a grid: recursive coordinate bisection, cutting across y and x in turn in 2D, and across y, z and x in 3D.
+//
+//   weights  one for each cell: cell (x, y, z) stands at x + width * (y + height * z)
+//   splits   node i at place i - 1, the root being 1 and the children of i being 2i and 2i + 1: the cut in grid
+//            coordinates, or UNCUT
+//   ids      one for each cell, in the order of the weights
+//
+// A caller may rely on these laws: one number and one pair of slices keep the promise (rcb-2d-only, rcb-3d-only); each
+// id is below 2^depth (ids-below); the weights of the ids add up to the whole and keep to their bounds (demand-3-in-2d,
+// demand-3-in-3d); each cut lies in its block, and a node is not cut just where its side is 0 or its parent is not cut
+// (structured).
+mod parts;
+mod plane;
+mod refusals;
+mod space;
 
 use cuts::subgrid;
 use cuts::subgrid::Grid;

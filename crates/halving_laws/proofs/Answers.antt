@@ -3,7 +3,7 @@ use Prim.Native.Nat.{ℕ, zero, suc}
 use mathlib.Core.Path.{_≡_, refl}
 use mathlib.Core.List.{List}
 use Rattle.rules.specs.Refusals.{sliceBy}
-use Rattle.rules.specs.Halving.{Halving, Halved, halve, refusalOf, splitsBy, idsBy}
+use Rattle.rules.specs.Halving.{Halving, halve, refusalOf, splitsBy, idsBy}
 
 module _ (h : Halving) (ws splits ids : List ℕ) where
   pub refused : (n : ℕ) → n ≡ refusalOf h ws splits ids → (n ≡ 0 → ⊥) → halve h ws splits ids ≡ record { number = n; splits = splits; ids = ids }

@@ -3,17 +3,17 @@ use Prim.Native.Nat.{ℕ, zero, suc, _+_, _-_, _*_, _^_, _≤_, _<_}
 use native.Mathlib.Omega.{arith}
 use native.Mathlib.Nat.{pow-succ', pow-le-pow-left, mul-le-mul-left, mul-le-mul-right}
 use native.Mathlib.Numerals.{add-one}
-use mathlib.Core.Path.{_≡_, refl, ap, sym, _∙_}
+use mathlib.Core.Path.{_≡_, _∙_}
 use mathlib.Core.Bool.{Bool, true, false}
-use mathlib.Core.Logic.{_⊎_, inl, inr, ⊎-elim}
+use mathlib.Core.Logic.{inl, inr}
 use mathlib.Core.List.{List}
 use lib.Dec.{ltb, lit≤}
 use lib.ListN.{length}
-use Rattle.rules.specs.Grid.{Block, whole, side, before, after, allWeight, weight, heaviest, heaviestLine}
+use Rattle.rules.specs.Grid.{Block, whole, before, after, allWeight, weight, heaviestLine}
 use Rattle.rules.specs.Halving.{nextAxis, cut, idsOf}
 use Rattle.halving_laws.specs.Nodes.{choose, leaf, blockOf}
 use Rattle.rules.specs.Demands.{partWeight}
-use Rattle.halving_laws.specs.Fair.{FairCut, FairTree}
+use Rattle.halving_laws.specs.Fair.{FairTree}
 use Rattle.rules.specs.Demands.{Balanced}
 use Rattle.halving_laws.proofs.Blocks.{whole-length, before-length, after-length}
 use Rattle.halving_laws.proofs.Weights.{left-plus-right, whole-weight, heaviest-at-most-grid, flat-weight}

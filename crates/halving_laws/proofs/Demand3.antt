@@ -1,16 +1,13 @@
 -- Demand 3: the splits of a call that is not refused are a tree of fair cuts, and every such tree is balanced.
-use Prim.Native.Nat.{ℕ, zero, suc, _+_, _*_, _^_, _≤_, _<_}
+use Prim.Native.Nat.{ℕ, _^_, _≤_, _<_}
 use native.Mathlib.Omega.{arith}
-use mathlib.Core.Path.{_≡_, refl}
-use mathlib.Core.List.{List, [], _∷_}
+use mathlib.Core.List.{List}
 use lib.Dec.{lit≤}
 use lib.ListN.{getD, length}
 use Rattle.rules.specs.Grid.{cells, whole, allWeight}
-use Rattle.rules.specs.Refusals.{sliceBy, refuseHalving}
-use Rattle.rules.specs.Halving.{Edition, edition1, Halving, halving2, halving3, splitsBy, idsBy, refusalOf, halve}
-use Rattle.rules.specs.Demands.{Demand3, Demand3Of, Demand3In2D, Demand3In3D}
-use Rattle.rules.specs.declared.Halving2.{Halving2}
-use Rattle.rules.specs.declared.Halving3.{Halving3}
+use Rattle.rules.specs.Refusals.{sliceBy}
+use Rattle.rules.specs.Halving.{edition1, Halving, halving2, halving3, splitsBy, idsBy, halve}
+use Rattle.rules.specs.Demands.{Demand3Of, Demand3In2D, Demand3In3D}
 use Rattle.halving_laws.specs.Fair.{FairTree, Structured}
 use Rattle.halving_laws.specs.Accepted.{Accepted}
 use Rattle.halving_laws.proofs.Totals.{total-le}

@@ -3,9 +3,9 @@
 use Prim.Native.Nat.{ℕ, zero, suc, _+_, _-_, _*_, _≤_, _<_, zero-le}
 use native.Mathlib.Omega.{arith}
 use native.Mathlib.Nat.{eq-zero-or-pos}
-use mathlib.Core.Path.{_≡_, refl, ap, sym, _∙_}
+use mathlib.Core.Path.{_≡_, refl, ap, sym}
 use mathlib.Core.Bool.{Bool, true, false, _&&_}
-use mathlib.Core.Logic.{_⊎_, inl, inr, ⊎-elim}
+use mathlib.Core.Logic.{_⊎_, ⊎-elim}
 use mathlib.Core.List.{List}
 use lib.Dec.{leb, ltb}
 use lib.ListN.{length}
@@ -15,7 +15,7 @@ use Rattle.rules.specs.Grid.{Block, edge, side, before, weight, line, heaviest}
 use Rattle.rules.specs.Halving.{reach, settle, cutOf}
 use Rattle.rules.specs.Halving.{Edition, cutAt}
 use Rattle.halving_laws.specs.Fair.{FairCut}
-use Rattle.halving_laws.proofs.Totals.{total-le, top-le}
+use Rattle.halving_laws.proofs.Totals.{total-le}
 use Rattle.halving_laws.proofs.Weights.{lines-before, lines-all, line-at-most-heaviest}
 use Rattle.halving_laws.proofs.Reach.{reach-le, reach-below, reach-hit}
 

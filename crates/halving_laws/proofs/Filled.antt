@@ -1,23 +1,21 @@
 -- The splits of the rule: at each node stands the cut of its block, and they are fair and well structured.
 use Prim.Native.Nat.{ℕ, zero, suc, _+_, _-_, _*_, _^_, _≤_, _<_}
 use native.Mathlib.Omega.{arith}
-use mathlib.Core.Path.{_≡_, refl, ap, sym, _∙_}
-use mathlib.Core.Logic.{_⊎_, inl, inr, ⊎-elim}
-use mathlib.Core.List.{List, [], _∷_}
-use lib.Dec.{lit≤}
+use mathlib.Core.Path.{_≡_, refl, sym, _∙_}
+use mathlib.Core.Logic.{_⊎_, inl, inr}
+use mathlib.Core.List.{List}
 use lib.ListN.{getD, length, set, length-set, replicate, length-replicate}
 use lib.Seq.{getD-set-same, getD-set-other}
 use Rattle.rules.specs.Grid.{Block, whole, edge, side, before, after, allWeight, weight, line}
-use Rattle.rules.specs.Halving.{cutOf}
 use Rattle.rules.specs.Halving.{Edition, uncut, nextAxis, cutAt, unlessFlat, fill, splitsOf, cut}
 use Rattle.halving_laws.specs.Nodes.{Room}
-use Rattle.halving_laws.specs.Fair.{FairCut, FairTree, AllUncut, Structured}
-use Rattle.halving_laws.proofs.Blocks.{whole-length, before-length, after-length}
+use Rattle.halving_laws.specs.Fair.{FairTree, AllUncut, Structured}
+use Rattle.halving_laws.proofs.Blocks.{before-length, after-length}
 use Rattle.halving_laws.proofs.Weights.{weight-at-most-all}
 use Rattle.halving_laws.proofs.Reach.{cut-inside}
 use Rattle.halving_laws.proofs.FairCut.{Limits, cut-is-fair}
 use Rattle.halving_laws.proofs.Ids.{next-lt}
-use Rattle.halving_laws.proofs.Heap.{Apart, below-apart, Peers, peers-disjoint, Agree, set-agree, disjoint-agree, agree-uncut, room-here, room-left, room-right, room-root}
+use Rattle.halving_laws.proofs.Heap.{Apart, below-apart, peers-disjoint, Agree, set-agree, disjoint-agree, agree-uncut, room-here, room-left, room-right, room-root}
 
 module _ (e : Edition) (sides ws : List ℕ) where
   -- the splits s carry the rule's cuts at d levels from a node on

@@ -2,12 +2,12 @@
 use Prim.Native.Nat.{ℕ, zero, suc, _+_, _-_, _*_, _^_, _≤_, _<_}
 use native.Mathlib.Omega.{arith}
 use native.Mathlib.Nat.{mul-le-mul-left, two-pow-succ}
-use mathlib.Core.Path.{_≡_, refl, ap, sym, _∙_}
+use mathlib.Core.Path.{_≡_, sym, _∙_}
 use mathlib.Core.List.{List}
-use lib.ListN.{getD, length, set, length-set}
+use lib.ListN.{set}
 use lib.Dec.{lit≤}
 use lib.Pow.{pow-pos}
-use lib.Seq.{getD-set-same, getD-set-other}
+use lib.Seq.{getD-set-other}
 use Rattle.rules.specs.Halving.{cut, uncut}
 use Rattle.halving_laws.specs.Nodes.{Room}
 use Rattle.halving_laws.specs.Fair.{AllUncut}

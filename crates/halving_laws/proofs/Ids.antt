@@ -1,15 +1,14 @@
 -- The cells of an id are those of one block, each id is below 2 ^ k, and the weights of all ids add up.
-use Prim.Native.Nat.{ℕ, zero, suc, _+_, _-_, _*_, _%_, _^_, _≤_, _<_}
+use Prim.Native.Nat.{ℕ, zero, suc, _+_, _-_, _*_, _^_, _≤_, _<_}
 use native.Mathlib.Omega.{arith}
 use native.Mathlib.Nat.{mod-lt, two-pow-succ, add-zero}
 use mathlib.Core.Path.{_≡_, refl, ap, sym, _∙_}
-use mathlib.Core.Bool.{Bool, true, false, _&&_, not, and-true, and-false, and-assoc}
+use mathlib.Core.Bool.{Bool, true, false, _&&_, not, and-true}
 use mathlib.Core.List.{List}
 use lib.Dec.{ltb, eqb}
 use lib.ListN.{getD, length}
-use lib.Pow.{pow-pos}
 use borrow.Author.Tests.{ltb-true, ltb-false, eq-eqb, ne-eqb, eqb-true}
-use Rattle.rules.specs.Sums.{pick, total, sumWhere}
+use Rattle.rules.specs.Sums.{pick, total}
 use Rattle.rules.specs.Grid.{cells, coords, on, Block, whole, inside, before, after, allWeight, weight}
 use Rattle.rules.specs.Halving.{nextAxis, cut, turn, walk, idOf, idsOf}
 use Rattle.halving_laws.specs.Nodes.{choose, leaf, blockOf}

@@ -3,6 +3,7 @@ pub mod Blocks
 pub mod Weights
 pub mod Reach
 pub mod LoHi
+pub mod Floors
 pub mod FairCut
 pub mod Ids
 pub mod Balance

@@ -1,21 +1,22 @@
--- The whole part of a rounded fraction, between whole numbers.
-use Prim.Native.Nat.{ℕ, zero, suc, _+_, _-_, _*_, _/_, _^_, _≤_, _<_, min}
+-- The limits of lo and hi. Rounding is monotone, and whole numbers and 256ths are f64 themselves: a product that lies between two of them is
+-- rounded to one between them.
+use Prim.Native.Nat.{ℕ, zero, suc, _+_, _-_, _*_, _/_, _^_, _≤_, _<_}
 use native.Mathlib.Omega.{arith}
-use native.Mathlib.Nat.{div-lt-iff-lt-mul, le-div-iff-mul-le, mul-assoc, mul-one, lt-of-lt-of-le, min-eq-left, mul-le-mul-right, le-of-lt}
-use mathlib.Core.Path.{_≡_, refl, ap, sym, subst, _∙_}
-use mathlib.Core.Bool.{Bool, true, false, true≢false}
-use lib.IntN.{ℤ, pos, negsuc}
+use native.Mathlib.Nat.{div-lt-iff-lt-mul, le-div-iff-mul-le, mul-assoc, lt-of-lt-of-le, min-eq-left, mul-le-mul-right}
+use mathlib.Core.Path.{_≡_, refl, ap, sym}
+use mathlib.Core.Bool.{true, false, true≢false}
+use lib.IntN.{pos, negsuc}
 use lib.Dec.{T, lit<, lit≤, lt→ltb}
-use lib.Pow.{pow-pos, shl-lt}
-use lib.Ieee.{Float, nan, inf, fin, Format, binary64, ofInt, div, mul, sub, add, round, le, lt, toUnsigned, prec, emax, low, up, down}
+use lib.Pow.{shl-lt}
+use lib.Ieee.{Float, nan, inf, fin, binary64, ofInt, div, mul, sub, add, round, le, lt, toUnsigned, low, up, down}
 use lib.Ieee.Fits.{down-pos}
 use lib.Ieee.Exact.{HasValue, round-exact}
 use lib.Ieee.Order.{round-mono}
 use lib.Ieee.Scale.{round-same}
-use lib.Ieee.Positive.{num, den, den-pos, positive, positive-of-value, own-value, values-of-le, value→cross, between, mul-at}
+use lib.Ieee.Positive.{num, den, den-pos, positive, positive-of-value, own-value, values-of-le, between, mul-at}
 use Rattle.rules.specs.Halving.{one, two, half, hundredth, loOf, hiOf}
 
--- ---- fractions that the format holds as they are
+-- Fractions that the format holds as they are.
 
 whole-value : (n : ℕ) → n < 2 ^ 53 → HasValue (round binary64 false n 1) false n 1
 whole-value n h = round-exact binary64 false n 1 n 1074 (lit< tt) h (lt-of-lt-of-le (shl-lt 53 1074 h) (lit≤ tt)) (sym (mul-assoc n (2 ^ 1074) 1))
@@ -26,7 +27,7 @@ half-value n h = round-exact binary64 false n 2 n 1073 (lit< tt) h (lt-of-lt-of-
 byte-value : (n : ℕ) → n < 2 ^ 53 → HasValue (round binary64 false n 256) false n 256
 byte-value n h = round-exact binary64 false n 256 n 1066 (lit< tt) h (lt-of-lt-of-le (shl-lt 53 1066 h) (lit≤ tt)) (sym (mul-assoc n (2 ^ 1066) 256))
 
--- ---- a whole number halved
+-- A whole number halved.
 
 div-two : (x : Float) (a : ℕ) → HasValue x false a 1 → div binary64 x two ≡ round binary64 false a 2
 unfolding div two
@@ -41,9 +42,9 @@ half-is : (t : ℕ) → t < 2 ^ 53 → half t ≡ round binary64 false t 2
 unfolding half ofInt
 half-is t h = div-two (round binary64 false t 1) t (whole-value t h)
 
--- ---- a rounded fraction a / c, and its whole part
+-- A rounded fraction a / c, and its whole part.
 
-whole-is : (z : Float) → T (positive z) → num z / den z < 2 ^ 64 → toUnsigned 64 z ≡ num z / den z
+pub whole-is : (z : Float) → T (positive z) → num z / den z < 2 ^ 64 → toUnsigned 64 z ≡ num z / den z
 unfolding toUnsigned
 whole-is nan p h = absurd p
 whole-is (inf s) p h = absurd p
@@ -106,7 +107,7 @@ droppable z m k n s e f =
     let b : n ≤ 2 ^ 64 = omega arith in
     (negative z (s .above), under z (s .above) (lt-of-lt-of-le g (mul-le-mul-right (den z) b)))
 
--- ---- the bounds
+-- The limits.
 
 -- 1 - 0.01 and 1 + 0.01
 less : sub binary64 one hundredth ≡ fin false 4458563631096791 (negsuc 51)
@@ -124,7 +125,7 @@ times t y b h s p v = rw (half-is t s) (mul-at binary64 (round binary64 false t 
 lo-sits : (t m n : ℕ) → 0 < t → t < 2 ^ 45 → 200 * m + 1 ≤ 99 * t → 99 * t + 1 ≤ 200 * n → n ≤ t → Sits (round binary64 false (t * 4458563631096791) (2 * 2 ^ 52)) m (256 * n - 1)
 lo-sits t m n h s l u b = sits (t * 4458563631096791) (2 * 2 ^ 52) m (256 * n - 1) (lit< tt) (omega arith) (omega arith) (omega arith) (omega arith) (omega arith) (omega arith)
 
-hi-sits : (t m n : ℕ) → 0 < t → t < 2 ^ 45 → 200 * m + 1 ≤ 101 * t → 101 * t + 1 ≤ 200 * n → n ≤ t → Sits (round binary64 false (t * 4548635623644201) (2 * 2 ^ 52)) m (256 * n - 1)
+hi-sits : (t m n : ℕ) → 0 < t → t < 2 ^ 45 → 200 * m ≤ 101 * t → 101 * t + 1 ≤ 200 * n → n ≤ t → Sits (round binary64 false (t * 4548635623644201) (2 * 2 ^ 52)) m (256 * n - 1)
 hi-sits t m n h s l u b = sits (t * 4548635623644201) (2 * 2 ^ 52) m (256 * n - 1) (lit< tt) (omega arith) (omega arith) (omega arith) (omega arith) (omega arith) (omega arith)
 
 -- the f64 whose fraction is dropped
@@ -134,17 +135,17 @@ loFloat t = mul binary64 (half t) (sub binary64 one hundredth)
 abbrev pub hiFloat : ℕ → Float
 hiFloat t = mul binary64 (half t) (add binary64 one hundredth)
 
-lo-float : (t : ℕ) → 0 < t → t < 2 ^ 45 → loFloat t ≡ round binary64 false (t * 4458563631096791) (2 * 2 ^ 52)
+pub lo-float : (t : ℕ) → 0 < t → t < 2 ^ 45 → loFloat t ≡ round binary64 false (t * 4458563631096791) (2 * 2 ^ 52)
 lo-float t h s = rw less (times t (fin false 4458563631096791 (negsuc 51)) 4458563631096791 h (omega arith) tt (refl, refl))
 
 hi-float : (t : ℕ) → 0 < t → t < 2 ^ 45 → hiFloat t ≡ round binary64 false (t * 4548635623644201) (2 * 2 ^ 52)
 hi-float t h s = rw more (times t (fin false 4548635623644201 (negsuc 51)) 4548635623644201 h (omega arith) tt (refl, refl))
 
-lo-at : (t : ℕ) → 0 < t → t < 2 ^ 45 → Sits (loFloat t) ((99 * t - 1) / 200) (256 * (99 * t / 200 + 1) - 1)
+pub lo-at : (t : ℕ) → 0 < t → t < 2 ^ 45 → Sits (loFloat t) ((99 * t - 1) / 200) (256 * (99 * t / 200 + 1) - 1)
 lo-at t h s = rw (lo-float t h s) (lo-sits t ((99 * t - 1) / 200) (99 * t / 200 + 1) h s (omega arith) (omega arith) (omega arith))
 
-hi-at : (t : ℕ) → 0 < t → t < 2 ^ 45 → Sits (hiFloat t) ((101 * t - 1) / 200) (256 * (101 * t / 200 + 1) - 1)
-hi-at t h s = rw (hi-float t h s) (hi-sits t ((101 * t - 1) / 200) (101 * t / 200 + 1) h s (omega arith) (omega arith) (omega arith))
+hi-at : (t : ℕ) → 0 < t → t < 2 ^ 45 → Sits (hiFloat t) (101 * t / 200) (256 * (101 * t / 200 + 1) - 1)
+hi-at t h s = rw (hi-float t h s) (hi-sits t (101 * t / 200) (101 * t / 200 + 1) h s (omega arith) (omega arith) (omega arith))
 
 pub lo-limits : (t : ℕ) → t < 2 ^ 45 → (200 * loOf t ≤ 99 * t) × (99 * t ≤ 200 * loOf t + 200)
 unfolding loOf
@@ -170,19 +171,15 @@ unfolding lt mul half one hundredth add
 hi-drops zero h = (tt, tt)
 hi-drops (suc t) h = droppable (hiFloat (suc t)) _ _ (101 * suc t / 200 + 1) (hi-at (suc t) (omega arith) h) (omega arith) (omega arith)
 
--- the sharp form, from which lo ≤ hi
+-- lo is the whole part of 99T / 200, or one less where that is a whole number; hi is the whole part of 101T / 200
 pub lo-sharp : (t : ℕ) → 0 < t → t < 2 ^ 45 → ((99 * t - 1) / 200 ≤ loOf t) × (loOf t ≤ 99 * t / 200)
 unfolding loOf
 lo-sharp t h s =
     let p = part (loFloat t) _ _ (99 * t / 200 + 1) (lo-at t h s) (omega arith) (omega arith) in
     (p .0, omega (arith, p .1))
 
-pub hi-sharp : (t : ℕ) → 0 < t → t < 2 ^ 45 → ((101 * t - 1) / 200 ≤ hiOf t) × (hiOf t ≤ 101 * t / 200)
+pub hi-sharp : (t : ℕ) → 0 < t → t < 2 ^ 45 → hiOf t ≡ 101 * t / 200
 unfolding hiOf
 hi-sharp t h s =
     let p = part (hiFloat t) _ _ (101 * t / 200 + 1) (hi-at t h s) (omega arith) (omega arith) in
-    (p .0, omega (arith, p .1))
-
-pub lo-le-hi : (t : ℕ) → t < 2 ^ 45 → loOf t ≤ hiOf t
-lo-le-hi zero h = omega (arith, lo-limits 0 h, hi-limits 0 h)
-lo-le-hi (suc t) h = omega (arith, lo-sharp (suc t) (omega arith) h, hi-sharp (suc t) (omega arith) h)
+    omega (arith, p .0, p .1)

@@ -1,17 +1,17 @@
 -- Laws of weights: a block's parts and lines add up, and no line of a block is heavier than the grid's.
-use Prim.Native.Nat.{ℕ, zero, suc, _+_, _-_, _*_, _≤_, _<_}
+use Prim.Native.Nat.{ℕ, zero, suc, _+_, _-_, _≤_, _<_}
 use native.Mathlib.Omega.{arith}
 use native.Mathlib.Nat.{add-suc}
 use native.Mathlib.Decide.{decLt, decLe}
-use mathlib.Core.Bool.{Bool, true, false, _&&_, not, and-comm, and-assoc, and-true, and-false, true≢false}
+use mathlib.Core.Bool.{Bool, true, false, _&&_, not}
 use mathlib.Core.Path.{_≡_, refl, ap, ap₂, sym, _∙_}
-use mathlib.Core.List.{List, [], _∷_}
-use lib.Dec.{leb, ltb, eqb}
+use mathlib.Core.List.{List}
+use lib.Dec.{ltb, eqb}
 use lib.ListN.{getD, length}
-use borrow.Author.Tests.{lt-ltb, le-ltb, ltb-true, ltb-false, eq-eqb, ne-eqb, eqb-true, not-true}
-use Rattle.rules.specs.Sums.{pick, total, sumWhere, top}
-use Rattle.rules.specs.Grid.{cells, coords, on, Range, Block, whole, within, inside, edge, side, before, after, allWeight, weight, line, heaviest, heaviestLine}
-use Rattle.halving_laws.proofs.Totals.{total-ext, where-ext, where-all, where-none, where-mono, where-split, top-le, le-top}
+use borrow.Author.Tests.{lt-ltb, le-ltb, ltb-true, ltb-false, eq-eqb, eqb-true, not-true}
+use Rattle.rules.specs.Sums.{total, sumWhere, top}
+use Rattle.rules.specs.Grid.{cells, coords, on, Block, whole, inside, edge, side, before, after, allWeight, weight, line, heaviest, heaviestLine}
+use Rattle.halving_laws.proofs.Totals.{where-ext, where-all, where-none, where-mono, where-split, top-le, le-top}
 use Rattle.halving_laws.proofs.Blocks.{both, same-test, whole-length, inside-whole, inside-before, inside-after, inside-edge, never}
 
 module _ (sides ws : List ℕ) where

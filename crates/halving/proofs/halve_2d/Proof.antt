@@ -1,10 +1,8 @@
 -- `halve_2d` meets its contract: the whole grid is a sound block, and the rule's splits give the rule's ids.
-use Prim.Native.Nat.{_*_, _≤_, _<_}
-use native.Mathlib.Omega.{arith}
-use native.Mathlib.Nat.{mul-one, mul-le-mul}
+use Prim.Native.Nat.{_≤_}
+use native.Mathlib.Nat.{mul-one}
 use mathlib.Core.Path.{_≡_, refl, _∙_}
 use lib.Dec.{lit≤}
-use lib.ListN.{length}
 use borrow.Author.Needs.{needs}
 use Rattle.rules.specs.Halving.{splitsOf, splitsBy}
 use Rattle.cuts.specs.SubGrids.{plane, tree}

@@ -1,6 +1,5 @@
 -- `rcb_2d` meets its contract: a refused call writes nothing, and any other is accepted and halved.
-use mathlib.Core.Path.{_≡_, refl, ap, sym, _∙_}
-use lib.ListN.{length}
+use mathlib.Core.Path.{_≡_, ap, sym, _∙_}
 use borrow.Author.Needs.{needs}
 use Rattle.rules.specs.Halving.{Halved, halving2, refusalOf}
 use Rattle.halving_laws.proofs.Accepted.{accepted}

@@ -1,6 +1,5 @@
 -- `rcb_3d` meets its contract: a refused call writes nothing, and any other is accepted and halved.
-use mathlib.Core.Path.{_≡_, refl, ap, sym, _∙_}
-use lib.ListN.{length}
+use mathlib.Core.Path.{_≡_, ap, sym, _∙_}
 use borrow.Author.Needs.{needs}
 use Rattle.rules.specs.Halving.{Halved, halving3, refusalOf}
 use Rattle.halving_laws.proofs.Accepted.{accepted}

@@ -3,12 +3,12 @@ use Prim.Native.Nat.{ℕ, _+_, _-_, _*_, _≤_, _<_}
 use native.Mathlib.Omega.{arith}
 use native.Mathlib.Nat.{eq-or-lt-of-le}
 use mathlib.Core.Logic.{⊎-elim}
-use mathlib.Core.Path.{_≡_, refl, ap, sym, _∙_}
+use mathlib.Core.Path.{_≡_, _∙_}
 use mathlib.Core.List.{List}
-use lib.ListN.{length, getD, set, length-set}
+use lib.ListN.{length, set, length-set}
 use lib.Seq.{getD-set-same, getD-set-other}
 use borrow.Author.Needs.{needs}
-use Rattle.cuts.specs.Solid.{lineOf, LinesAre, LinesFit}
+use Rattle.cuts.specs.Solid.{lineOf, LinesAre}
 use Rattle.cuts.proofs.Bounds.{reach-next}
 use Rattle.cuts.proofs.lines.line_sums.Statement.{statement}
 use Rattle.cuts.proofs.lines.line_sums.Tie as tie

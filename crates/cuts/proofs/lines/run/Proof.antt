@@ -1,11 +1,10 @@
 -- `run` meets its contract: the sum is that of the cells passed.
-use Prim.Native.Nat.{ℕ, _+_, _-_, _*_, _≤_, _<_}
+use Prim.Native.Nat.{_+_, _-_, _≤_}
 use native.Mathlib.Omega.{arith}
 use mathlib.Core.Path.{_≡_, refl}
-use lib.ListN.{length, getD}
 use borrow.Author.Needs.{needs}
 use Rattle.rules.specs.Sums.{total}
-use Rattle.cuts.specs.Solid.{runSum, Light, RunFits}
+use Rattle.cuts.specs.Solid.{runSum}
 use Rattle.cuts.proofs.Bounds.{run-light, run-more}
 use Rattle.cuts.proofs.lines.run.Statement.{statement}
 use Rattle.cuts.proofs.lines.run.Tie as tie

@@ -1,11 +1,10 @@
 -- `sheet` meets its contract: the sum is that of the runs passed, and `at` is where the next begins.
-use Prim.Native.Nat.{ℕ, _+_, _-_, _*_, _≤_, _<_}
+use Prim.Native.Nat.{ℕ, _+_, _-_, _*_, _≤_}
 use native.Mathlib.Omega.{arith}
-use native.Mathlib.Nat.{mul-le-mul-left}
-use mathlib.Core.Path.{_≡_, refl, ap, _∙_}
+use mathlib.Core.Path.{_≡_, refl, ap}
 use borrow.Author.Needs.{needs}
 use Rattle.rules.specs.Sums.{total}
-use Rattle.cuts.specs.Solid.{runSum, sheetSum, Light, RunFits, SheetFits}
+use Rattle.cuts.specs.Solid.{runSum, sheetSum}
 use Rattle.cuts.proofs.Bounds.{run-light, sheet-light, sheet-more, reach-next}
 use Rattle.cuts.proofs.lines.sheet.Statement.{statement}
 use Rattle.cuts.proofs.lines.sheet.Tie as tie

@@ -1,11 +1,10 @@
 -- `solid` meets its contract: the sum is that of the sheets passed, and `at` is where the next begins.
-use Prim.Native.Nat.{ℕ, _+_, _-_, _*_, _≤_, _<_}
+use Prim.Native.Nat.{ℕ, _+_, _-_, _*_, _≤_}
 use native.Mathlib.Omega.{arith}
-use native.Mathlib.Nat.{mul-le-mul-left}
-use mathlib.Core.Path.{_≡_, refl, ap, _∙_}
+use mathlib.Core.Path.{_≡_, refl, ap}
 use borrow.Author.Needs.{needs}
 use Rattle.rules.specs.Sums.{total}
-use Rattle.cuts.specs.Solid.{sheetSum, solidSum, Light, SheetFits, SolidFits}
+use Rattle.cuts.specs.Solid.{sheetSum, solidSum}
 use Rattle.cuts.proofs.Bounds.{sheet-light, solid-light, solid-more, reach-next}
 use Rattle.cuts.proofs.lines.solid.Statement.{statement}
 use Rattle.cuts.proofs.lines.solid.Tie as tie

@@ -1,6 +1,6 @@
-use mathlib.Core.Path.{_≡_, refl, ap, _∙_}
+-- `max_part_weight` meets its contract: it computes what hiOf does, operation by operation, and its product has a whole part that fits.
+use mathlib.Core.Path.{_∙_}
 use borrow.Author.Needs.{needs}
-use lib.Ieee.{ofInt, div, mul, add}
 use Rattle.rules.specs.Halving.{one, two, half, hundredth, hiOf}
 use Rattle.halving_laws.proofs.LoHi.{hi-drops}
 use Rattle.cuts.proofs.median.max_part_weight.Statement.{statement}

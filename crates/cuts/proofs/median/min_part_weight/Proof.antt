@@ -1,6 +1,6 @@
-use mathlib.Core.Path.{_≡_, refl, ap, _∙_}
+-- `min_part_weight` meets its contract: it computes what loOf does, operation by operation, and its product has a whole part that fits.
+use mathlib.Core.Path.{_∙_}
 use borrow.Author.Needs.{needs}
-use lib.Ieee.{ofInt, div, mul, sub}
 use Rattle.rules.specs.Halving.{one, two, half, hundredth, loOf}
 use Rattle.halving_laws.proofs.LoHi.{lo-drops}
 use Rattle.cuts.proofs.median.min_part_weight.Statement.{statement}

@@ -1,10 +1,10 @@
 -- `weighted_median` meets its contract: the search has not ended before j, and `left` and `last` weigh the lines before j and j - 1.
-use Prim.Native.Nat.{ℕ, zero, suc, _+_, _-_, _*_, _≤_, _<_}
+use Prim.Native.Nat.{ℕ, _+_, _-_, _*_, _≤_, _<_}
 use native.Mathlib.Omega.{arith}
 use mathlib.Core.Path.{_≡_, refl, ap, sym, _∙_}
 use mathlib.Core.Logic.{⊎-elim}
 use mathlib.Core.List.{List}
-use lib.ListN.{length, getD}
+use lib.ListN.{getD}
 use borrow.Author.Needs.{needs}
 use Rattle.rules.specs.Sums.{total}
 use Rattle.rules.specs.Halving.{loOf, hiOf, reach, settle, cutOf}

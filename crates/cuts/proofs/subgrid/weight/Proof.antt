@@ -1,5 +1,5 @@
 -- `weight` meets its contract: the solid that it sums is that of the block.
-use mathlib.Core.Path.{_≡_, _∙_}
+use mathlib.Core.Path.{_∙_}
 use Rattle.cuts.specs.SubGrids.{solid}
 use Rattle.cuts.proofs.Solids.{corner-fits, layer-fits, solid-fits}
 use Rattle.cuts.proofs.subgrid.weight.Statement.{statement}

@@ -1,5 +1,4 @@
 -- `y_cut` meets its contract: the lines that it sums are the slabs of the block, and the median of their sums is their cut.
-use mathlib.Core.Path.{_≡_}
 use Rattle.cuts.specs.SubGrids.{acrossY}
 use Rattle.cuts.proofs.Solids.{corner-fits, layer-fits, side-fits, lines-fit, lines-light, cut-of-sums}
 use Rattle.cuts.proofs.subgrid.y_cut.Statement.{statement}

@@ -1,10 +1,8 @@
 -- `part_of` meets its contract: the way that is left from the node is the rest of the cell's way.
-use Prim.Native.Nat.{ℕ, _+_, _-_, _*_, _≤_, _<_}
+use Prim.Native.Nat.{_-_}
 use native.Mathlib.Omega.{arith}
-use mathlib.Core.Path.{_≡_}
 use mathlib.Core.Logic.{⊎-elim}
 use borrow.Author.Needs.{needs}
-use Rattle.halving.specs.Parts.{Axes}
 use Rattle.halving.proofs.Way.{Way, begin, node-small, leftwards, rightwards, arrived}
 use Rattle.halving.proofs.parts.part_of.Statement.{statement}
 use Rattle.halving.proofs.parts.part_of.Tie as tie

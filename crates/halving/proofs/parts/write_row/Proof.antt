@@ -1,8 +1,8 @@
 -- `write_row` meets its contract: the cells passed have their ids, and the others what they held.
-use Prim.Native.Nat.{ℕ, _+_, _-_, _*_, _≤_, _<_}
+use Prim.Native.Nat.{_+_, _-_, _≤_}
 use native.Mathlib.Omega.{arith}
-use mathlib.Core.Path.{_≡_, refl, ap, sym, _∙_}
-use mathlib.Core.List.{List, [], _++_, append-nil}
+use mathlib.Core.Path.{_≡_, refl, _∙_}
+use mathlib.Core.List.{_++_, append-nil}
 use lib.ListN.{length, drop, length-set}
 use lib.Seq.{drop-length}
 use borrow.Author.Needs.{needs}

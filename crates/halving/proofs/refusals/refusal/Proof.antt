@@ -4,7 +4,6 @@ use native.Mathlib.Omega.{arith}
 use native.Mathlib.Nat.{mul-le-mul}
 use mathlib.Core.Path.{_≡_, sym, _∙_}
 use mathlib.Core.Bool.{false}
-use mathlib.Core.List.{[], _∷_}
 use lib.Dec.{lit≤}
 use lib.ListN.{length}
 use borrow.Author.Needs.{needs}

@@ -2,7 +2,7 @@
 use Prim.Native.Nat.{ℕ, _≤_, _<_}
 use native.Mathlib.Omega.{arith}
 use native.Mathlib.Nat.{pos-of-ne-zero}
-use mathlib.Core.Path.{_≡_, _∙_}
+use mathlib.Core.Path.{_∙_}
 use lib.ListN.{length-set}
 use Rattle.halving_laws.proofs.Steps.{place-here, first-places, second-places, small-node, falls-by}
 use Rattle.cuts.specs.SubGrids.{space, acrossX, acrossY, acrossZ, CutOn}
