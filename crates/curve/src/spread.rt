@@ -44,7 +44,7 @@ pub fn deposit(source: u64, mask: u64) -> u64
 }
 
 // The bits of x and y side by side.
-pub fn zorder_2d(x: u64, y: u64, order: u32) -> u64
+pub(crate) fn zorder_2d(x: u64, y: u64, order: u32) -> u64
     requires { ⌜ (order ≤ 32) × (x < 2 ^ order) × (y < 2 ^ order) ⌝ }
     ensures { λ r. ⌜ Interleaved 2 order (cell2 x y) r ⌝ }
 {
@@ -52,7 +52,7 @@ pub fn zorder_2d(x: u64, y: u64, order: u32) -> u64
 }
 
 // The bits of x, y and z side by side.
-pub fn zorder_3d(x: u64, y: u64, z: u64, order: u32) -> u64
+pub(crate) fn zorder_3d(x: u64, y: u64, z: u64, order: u32) -> u64
     requires { ⌜ (order ≤ 21) × (x < 2 ^ order) × (y < 2 ^ order) × (z < 2 ^ order) ⌝ }
     ensures { λ r. ⌜ Interleaved 3 order (cell3 x y z) r ⌝ }
 {

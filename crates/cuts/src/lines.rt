@@ -33,7 +33,7 @@ fn sheet(weights: &[u64], start: usize, w: usize, row: usize, h: usize) -> u64
 }
 
 // The weight of `d` sheets, `layer` apart.
-pub fn solid(
+pub(crate) fn solid(
     weights: &[u64],
     start: usize,
     w: usize,
@@ -56,7 +56,7 @@ pub fn solid(
 }
 
 // Fills `sums` with the weights of `m` solids, `jump` apart: the lines of a block.
-pub fn line_sums(
+pub(crate) fn line_sums(
     weights: &[u64],
     start: usize,
     jump: usize,

@@ -8,7 +8,7 @@ ghost use Rattle.halving_laws.specs.Nodes.{Places};
 ghost use Rattle.halving.specs.Parts.{idOn, idAt, Axes};
 
 // The number itself, as an index.
-pub fn wide(x: u32) -> usize
+pub(crate) fn wide(x: u32) -> usize
     ensures { λ r. ⌜ r ≡ x ⌝ }
 {
     x as usize
@@ -59,7 +59,7 @@ fn write_row(
 }
 
 // Writes the ids of all rows: row q is that of y = q modulo the height, z = q over the height.
-pub fn write_ids(
+pub(crate) fn write_ids(
     ids: &mut [u32],
     splits: &[u32],
     depth: usize,

@@ -9,7 +9,7 @@ ghost use Rattle.cuts.specs.SubGrids.{plane, acrossX, acrossY, tree, Sound};
 
 // Writes the splits of `depth` levels below a block of weight `total`, the first across y;
 // `sums` is the array that the lines' weights are filled into.
-pub fn recurse_2d_y(
+pub(crate) fn recurse_2d_y(
     weights: &[u64],
     g: Grid,
     b: SubGrid,
@@ -59,7 +59,7 @@ pub fn recurse_2d_y(
 
 // Writes the splits of `depth` levels below a block of weight `total`, the first across x;
 // `sums` is the array that the lines' weights are filled into.
-pub fn recurse_2d_x(
+pub(crate) fn recurse_2d_x(
     weights: &[u64],
     g: Grid,
     b: SubGrid,

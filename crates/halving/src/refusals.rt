@@ -70,7 +70,7 @@ fn weight_over(weights: &[u64]) -> bool
 }
 
 // The number of refusal of a call, 0 where it is answered.
-pub fn refusal(g: Grid, depth: u32, weights: &[u64], ids: usize, splits: usize) -> u32
+pub(crate) fn refusal(g: Grid, depth: u32, weights: &[u64], ids: usize, splits: usize) -> u32
     ensures { λ r. ⌜ r ≡ refuseHalving (sidesOf space g) depth (now (weights .entry)) ids splits ⌝ }
 {
     if sides_unfit(g) {

@@ -9,7 +9,7 @@ use axis::unfit;
 use rules::AxisAnswer;
 
 // Whether some value is unfit.
-pub fn any_unfit(xs: &[f64]) -> bool
+pub(crate) fn any_unfit(xs: &[f64]) -> bool
     ensures { λ r. ⌜ r ≡ any valueUnfit (now (xs .entry)) ⌝ }
 {
     let mut i = 0;
@@ -23,7 +23,7 @@ pub fn any_unfit(xs: &[f64]) -> bool
 }
 
 // The axis from the lowest to the highest of the points, or its refusal.
-pub fn axis_over(xs: &[f64], order: u32) -> AxisAnswer
+pub(crate) fn axis_over(xs: &[f64], order: u32) -> AxisAnswer
     ensures { λ r. ⌜ r ≡ makeAxis (extentOf (now (xs .entry)) .low) (extentOf (now (xs .entry)) .high) order ⌝ }
 {
     let extent = extent_of(xs);

@@ -14,7 +14,7 @@ pub enum Whole {
 }
 
 // Whether a byte is a digit.
-pub fn is_digit(b: u8) -> bool
+pub(crate) fn is_digit(b: u8) -> bool
     ensures { λ r. ⌜ r ≡ isDigit b ⌝ }
 {
     if b < b'0' {
