@@ -29,8 +29,8 @@ impl Grid<2> {
     /// Halves the grid `iter_count` times, across y first, then x, y, x: writes the part of each cell, and returns the cuts.
     ///
     /// There are 2^iter_count - 1 cuts, the root's first, those of the halves of node i (counted from 1) at nodes 2i and
-    /// 2i + 1, in grid coordinates, [`NOT_CUT`] for a node not cut. Refuses by [`Refused::Sides`], [`Refused::Depth`],
-    /// [`Refused::Lengths`], [`Refused::Weight`], and leaves `partition` untouched then.
+    /// 2i + 1, in grid coordinates, [`NOT_CUT`] for a node not cut. Refuses by [`Refused::Sides`], [`Refused::Depth`] (of
+    /// `iter_count`), [`Refused::Lengths`], [`Refused::Weight`], and leaves `partition` untouched then.
     pub fn rcb(self, partition: &mut [u32], weights: &[u64], iter_count: u32) -> Result<Vec<u32>, Refused> {
         let [width, height] = self.size;
         let mut splits = vec![0; node_count(iter_count)];
@@ -54,9 +54,9 @@ impl Grid<2> {
 
 impl Grid<3> {
     /// A grid of three sides. They are tested when it is halved.
-    pub fn new_3d(width: u32, height: u32, depth: u32) -> Self {
+    pub fn new_3d(width: u32, height: u32, layers: u32) -> Self {
         Self {
-            size: [width, height, depth],
+            size: [width, height, layers],
         }
     }
 

@@ -21,6 +21,8 @@
 //! # Ok(())
 //! # }
 //! ```
+#![warn(missing_docs)]
+
 mod curve;
 mod grid;
 mod refused;

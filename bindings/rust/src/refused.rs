@@ -70,7 +70,7 @@ impl fmt::Display for Refused {
 
 impl std::error::Error for Refused {}
 
-/// The value where the library answered 0, else the refusal of its number.
+/// The value where the library returned 0, else the refusal of its number, which is proved to be one of the eleven.
 pub(crate) fn answered<T>(number: u32, value: T) -> Result<T, Refused> {
     match number {
         0 => Ok(value),
