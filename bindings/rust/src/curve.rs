@@ -1,0 +1,123 @@
+use crate::refused::answered;
+use crate::sys;
+use crate::Refused;
+
+/// The Hilbert curve of an order: 2^order cells on each axis.
+///
+/// ```
+/// use skarvolm::{HilbertCurve, Refused};
+///
+/// let curve = HilbertCurve { order: 7 };
+/// assert_eq!(curve.encode_2d(127, 127), Ok(10922));
+/// assert_eq!(curve.decode_2d(10922), Ok((127, 127)));
+/// assert_eq!(curve.encode_2d(128, 0), Err(Refused::Coordinate));
+/// ```
+#[derive(Clone, Copy, Debug, PartialEq, Eq, Hash)]
+pub struct HilbertCurve {
+    /// At most 30 in 2D and on one axis, at most 21 in 3D.
+    pub order: u32,
+}
+
+impl Default for HilbertCurve {
+    /// Order 12, as in coupe.
+    fn default() -> Self {
+        Self { order: 12 }
+    }
+}
+
+impl HilbertCurve {
+    /// The index of a cell. Refuses by [`Refused::Order`], [`Refused::Coordinate`].
+    ///
+    /// Each call fills a table of 16,384 entries; for many points [`HilbertCurve::index_2d`] fills it once.
+    pub fn encode_2d(self, x: u64, y: u64) -> Result<u64, Refused> {
+        let mut index = 0;
+        // SAFETY: `index` is a live u64 that nothing else refers to.
+        let number = unsafe { sys::skarvolm_encode_2d(x, y, self.order, &mut index) };
+        answered(number, index)
+    }
+
+    /// The index of a cell. Refuses by [`Refused::Order`], [`Refused::Coordinate`].
+    pub fn encode_3d(self, x: u64, y: u64, z: u64) -> Result<u64, Refused> {
+        let mut index = 0;
+        // SAFETY: `index` is a live u64 that nothing else refers to.
+        let number = unsafe { sys::skarvolm_encode_3d(x, y, z, self.order, &mut index) };
+        answered(number, index)
+    }
+
+    /// The cell of an index. Refuses by [`Refused::Order`], [`Refused::Index`].
+    pub fn decode_2d(self, index: u64) -> Result<(u64, u64), Refused> {
+        let (mut x, mut y) = (0, 0);
+        // SAFETY: `x` and `y` are two live u64 that nothing else refers to.
+        let number = unsafe { sys::skarvolm_decode_2d(index, self.order, &mut x, &mut y) };
+        answered(number, (x, y))
+    }
+
+    /// The cell of an index. Refuses by [`Refused::Order`], [`Refused::Index`].
+    pub fn decode_3d(self, index: u64) -> Result<(u64, u64, u64), Refused> {
+        let (mut x, mut y, mut z) = (0, 0, 0);
+        // SAFETY: `x`, `y` and `z` are three live u64 that nothing else refers to.
+        let number = unsafe { sys::skarvolm_decode_3d(index, self.order, &mut x, &mut y, &mut z) };
+        answered(number, (x, y, z))
+    }
+
+    /// The cell of a value on the axis from `low` to `high`. Refuses by [`Refused::Order`], [`Refused::Value`],
+    /// [`Refused::Outside`], [`Refused::Thin`].
+    ///
+    /// ```
+    /// # use skarvolm::HilbertCurve;
+    /// // An axis from 0 to 4 in four cells: a value on a border lies in the lower one here.
+    /// assert_eq!(HilbertCurve { order: 2 }.cell(0.0, 4.0, 2.0), Ok(1));
+    /// assert_eq!(HilbertCurve { order: 2 }.cell(0.0, 4.0, 2.5), Ok(2));
+    /// ```
+    pub fn cell(self, low: f64, high: f64, value: f64) -> Result<u64, Refused> {
+        let mut cell = 0;
+        // SAFETY: `cell` is a live u64 that nothing else refers to.
+        let number = unsafe { sys::skarvolm_cell(low, high, self.order, value, &mut cell) };
+        answered(number, cell)
+    }
+
+    /// The index of each point, over the box along the axes from the lowest to the highest coordinate. Refuses by
+    /// [`Refused::Order`], [`Refused::NoPoints`], [`Refused::Lengths`], [`Refused::Value`], [`Refused::Thin`].
+    ///
+    /// ```
+    /// # use skarvolm::HilbertCurve;
+    /// let indices = HilbertCurve { order: 1 }.index_2d(&[0.0, 0.0, 1.0, 1.0], &[0.0, 1.0, 1.0, 0.0]);
+    /// assert_eq!(indices, Ok(vec![0, 1, 2, 3]));
+    /// ```
+    pub fn index_2d(self, xs: &[f64], ys: &[f64]) -> Result<Vec<u64>, Refused> {
+        let mut indices = vec![0; xs.len()];
+        // SAFETY: each pointer and length is a live slice's, and `indices`, alone written, overlaps none of the others.
+        let number = unsafe {
+            sys::skarvolm_index_2d(
+                xs.as_ptr(),
+                xs.len(),
+                ys.as_ptr(),
+                ys.len(),
+                self.order,
+                indices.as_mut_ptr(),
+                indices.len(),
+            )
+        };
+        answered(number, indices)
+    }
+
+    /// The index of each point, as [`HilbertCurve::index_2d`] gives it.
+    pub fn index_3d(self, xs: &[f64], ys: &[f64], zs: &[f64]) -> Result<Vec<u64>, Refused> {
+        let mut indices = vec![0; xs.len()];
+        // SAFETY: each pointer and length is a live slice's, and `indices`, alone written, overlaps none of the others.
+        let number = unsafe {
+            sys::skarvolm_index_3d(
+                xs.as_ptr(),
+                xs.len(),
+                ys.as_ptr(),
+                ys.len(),
+                zs.as_ptr(),
+                zs.len(),
+                self.order,
+                indices.as_mut_ptr(),
+                indices.len(),
+            )
+        };
+        answered(number, indices)
+    }
+}

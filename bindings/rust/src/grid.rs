@@ -1,0 +1,93 @@
+use crate::refused::answered;
+use crate::sys;
+use crate::Refused;
+
+/// The split of a node that is not cut.
+pub const NOT_CUT: u32 = u32::MAX;
+
+/// A cartesian mesh of cells. Cell (x, y) stands at x + width * y, cell (x, y, z) at x + width * (y + height * z).
+///
+/// ```
+/// use skarvolm::Grid;
+///
+/// let mut partition = [0; 16];
+/// let splits = Grid::new_2d(4, 4).rcb(&mut partition, &[1; 16], 2);
+/// assert_eq!(splits, Ok(vec![2, 2, 2]));
+/// assert_eq!(partition, [0, 0, 1, 1, 0, 0, 1, 1, 2, 2, 3, 3, 2, 2, 3, 3]);
+/// ```
+#[derive(Clone, Copy, Debug, PartialEq, Eq, Hash)]
+pub struct Grid<const D: usize> {
+    size: [u32; D],
+}
+
+impl Grid<2> {
+    /// A grid of two sides. They are tested when it is halved.
+    pub fn new_2d(width: u32, height: u32) -> Self {
+        Self { size: [width, height] }
+    }
+
+    /// Halves the grid `iter_count` times, across y first, then x, y, x: writes the part of each cell, and returns the cuts.
+    ///
+    /// There are 2^iter_count - 1 cuts, the root's first, those of the halves of node i (counted from 1) at nodes 2i and
+    /// 2i + 1, in grid coordinates, [`NOT_CUT`] for a node not cut. Refuses by [`Refused::Sides`], [`Refused::Depth`] (of
+    /// `iter_count`), [`Refused::Lengths`], [`Refused::Weight`], and leaves `partition` untouched then.
+    pub fn rcb(self, partition: &mut [u32], weights: &[u64], iter_count: u32) -> Result<Vec<u32>, Refused> {
+        let [width, height] = self.size;
+        let mut splits = vec![0; node_count(iter_count)];
+        // SAFETY: each pointer and length is a live slice's; `splits` and `partition`, which are written, overlap nothing.
+        let number = unsafe {
+            sys::skarvolm_rcb_2d(
+                width,
+                height,
+                iter_count,
+                weights.as_ptr(),
+                weights.len(),
+                splits.as_mut_ptr(),
+                splits.len(),
+                partition.as_mut_ptr(),
+                partition.len(),
+            )
+        };
+        answered(number, splits)
+    }
+}
+
+impl Grid<3> {
+    /// A grid of three sides. They are tested when it is halved.
+    pub fn new_3d(width: u32, height: u32, layers: u32) -> Self {
+        Self {
+            size: [width, height, layers],
+        }
+    }
+
+    /// Halves the grid `iter_count` times, across y first, then z, x, y, as [`Grid::<2>::rcb`] does in 2D.
+    pub fn rcb(self, partition: &mut [u32], weights: &[u64], iter_count: u32) -> Result<Vec<u32>, Refused> {
+        let [width, height, layers] = self.size;
+        let mut splits = vec![0; node_count(iter_count)];
+        // SAFETY: each pointer and length is a live slice's; `splits` and `partition`, which are written, overlap nothing.
+        let number = unsafe {
+            sys::skarvolm_rcb_3d(
+                width,
+                height,
+                layers,
+                iter_count,
+                weights.as_ptr(),
+                weights.len(),
+                splits.as_mut_ptr(),
+                splits.len(),
+                partition.as_mut_ptr(),
+                partition.len(),
+            )
+        };
+        answered(number, splits)
+    }
+}
+
+/// 2^iter_count - 1, or 0 where the library refuses the depth before it looks at the splits.
+fn node_count(iter_count: u32) -> usize {
+    if iter_count <= 12 {
+        (1 << iter_count) - 1
+    } else {
+        0
+    }
+}

@@ -1,0 +1,80 @@
+//! Values on an axis, indices of points, and each refusal of both.
+use skarvolm::{HilbertCurve, Refused};
+
+fn of_order(order: u32) -> HilbertCurve {
+    HilbertCurve { order }
+}
+
+#[test]
+fn cells_from_0_to_4() {
+    for (value, cell) in [(0.0, 0), (1.0, 0), (2.0, 1), (2.5, 2), (3.0, 2), (4.0, 3)] {
+        assert_eq!(of_order(2).cell(0.0, 4.0, value), Ok(cell), "{value}");
+    }
+}
+
+#[test]
+fn a_flat_axis_has_cell_0() {
+    assert_eq!(of_order(30).cell(7.0, 7.0, 7.0), Ok(0));
+    assert_eq!(of_order(30).cell(-0.0, 0.0, 0.0), Ok(0));
+}
+
+#[test]
+fn refusals_of_cells() {
+    let curve = of_order(2);
+    assert_eq!(of_order(31).cell(f64::NAN, 0.0, 0.0), Err(Refused::Order));
+    assert_eq!(curve.cell(f64::NAN, 4.0, 0.0), Err(Refused::Value));
+    assert_eq!(curve.cell(0.0, f64::INFINITY, 0.0), Err(Refused::Value));
+    assert_eq!(curve.cell(0.0, 1_048_577.0, 0.0), Err(Refused::Value));
+    assert_eq!(curve.cell(0.0, 4.0, f64::NAN), Err(Refused::Value));
+    assert_eq!(curve.cell(4.0, 0.0, 2.0), Err(Refused::Outside));
+    assert_eq!(curve.cell(0.0, 4.0, 4.5), Err(Refused::Outside));
+    assert_eq!(curve.cell(0.0, 1e-7, 0.0), Err(Refused::Thin));
+    assert_eq!(curve.cell(-1_048_576.0, 1_048_576.0, 1_048_576.0), Ok(3));
+}
+
+#[test]
+fn indices_are_those_of_the_cells() {
+    let curve = HilbertCurve::default();
+    let (xs, ys, zs) = ([-3.0, 5.0, 0.25, 1.5], [2.0, 2.5, -9.0, 0.0], [7.0, 1.0, 7.5, 2.0]);
+    let of_2d = curve.index_2d(&xs, &ys).unwrap();
+    let of_3d = curve.index_3d(&xs, &ys, &zs).unwrap();
+    for i in 0..xs.len() {
+        let x = curve.cell(-3.0, 5.0, xs[i]).unwrap();
+        let y = curve.cell(-9.0, 2.5, ys[i]).unwrap();
+        let z = curve.cell(1.0, 7.5, zs[i]).unwrap();
+        assert_eq!(Ok(of_2d[i]), curve.encode_2d(x, y));
+        assert_eq!(Ok(of_3d[i]), curve.encode_3d(x, y, z));
+    }
+}
+
+#[test]
+fn equal_points_have_index_0() {
+    assert_eq!(of_order(30).index_2d(&[1.0; 5], &[2.0; 5]), Ok(vec![0; 5]));
+    assert_eq!(of_order(21).index_3d(&[1.0; 5], &[2.0; 5], &[3.0; 5]), Ok(vec![0; 5]));
+}
+
+#[test]
+fn refusals_of_indices_in_2d() {
+    let curve = HilbertCurve::default();
+    assert_eq!(of_order(31).index_2d(&[], &[]), Err(Refused::Order));
+    assert_eq!(curve.index_2d(&[], &[1.0]), Err(Refused::NoPoints));
+    assert_eq!(curve.index_2d(&[f64::NAN], &[]), Err(Refused::Lengths));
+    assert_eq!(curve.index_2d(&[0.0, 1e-7], &[0.0, f64::NAN]), Err(Refused::Value));
+    assert_eq!(curve.index_2d(&[0.0, 1e-7], &[0.0, 1.0]), Err(Refused::Thin));
+}
+
+#[test]
+fn refusals_of_indices_in_3d() {
+    let curve = HilbertCurve::default();
+    assert_eq!(of_order(22).index_3d(&[], &[], &[]), Err(Refused::Order));
+    assert_eq!(curve.index_3d(&[], &[1.0], &[]), Err(Refused::NoPoints));
+    assert_eq!(curve.index_3d(&[0.0], &[0.0], &[]), Err(Refused::Lengths));
+    assert_eq!(
+        curve.index_3d(&[0.0, 1e-7], &[0.0, 1.0], &[0.0, -1e300]),
+        Err(Refused::Value)
+    );
+    assert_eq!(
+        curve.index_3d(&[0.0, 1.0], &[0.0, 1.0], &[0.0, 1e-7]),
+        Err(Refused::Thin)
+    );
+}

@@ -1,0 +1,201 @@
+/* count: prints the operations, a line each: name, inputs, points, words.
+ * count OPERATION library|plain|empty TIMES: first holds the answers of library and plain C to the operation's inputs
+ * together, and ends with status 1 where they differ; then calls the one side for all inputs TIMES times, a digit. What a run
+ * does besides the calls does not depend on the digit, so that the difference of two runs is that of the calls and their
+ * loop. */
+#include "empty.h"
+#include "plain.h"
+#include "skarvolm.h"
+#include <stdio.h>
+#include <string.h>
+
+enum { INPUTS = 16, POINTS = 500, CELLS = 65536, NODES = 4095 };
+
+struct side {
+    uint64_t (*deposit)(uint64_t, uint64_t);
+    uint32_t (*encode_2d)(uint64_t, uint64_t, uint32_t, uint64_t *);
+    uint32_t (*encode_3d)(uint64_t, uint64_t, uint64_t, uint32_t, uint64_t *);
+    uint32_t (*decode_2d)(uint64_t, uint32_t, uint64_t *, uint64_t *);
+    uint32_t (*decode_3d)(uint64_t, uint32_t, uint64_t *, uint64_t *, uint64_t *);
+    uint32_t (*cell)(double, double, uint32_t, double, uint64_t *);
+    uint32_t (*index_2d)(const double *, size_t, const double *, size_t, uint32_t, uint64_t *, size_t);
+    uint32_t (*index_3d)(const double *, size_t, const double *, size_t, const double *, size_t, uint32_t, uint64_t *,
+                         size_t);
+    uint32_t (*rcb_2d)(uint32_t, uint32_t, uint32_t, const uint64_t *, size_t, uint32_t *, size_t, uint32_t *, size_t);
+    uint32_t (*rcb_3d)(uint32_t, uint32_t, uint32_t, uint32_t, const uint64_t *, size_t, uint32_t *, size_t, uint32_t *,
+                       size_t);
+};
+
+static const struct side library = {
+    skarvolm_deposit, skarvolm_encode_2d, skarvolm_encode_3d, skarvolm_decode_2d, skarvolm_decode_3d,
+    skarvolm_cell,    skarvolm_index_2d,  skarvolm_index_3d,  skarvolm_rcb_2d,    skarvolm_rcb_3d,
+};
+static const struct side plain = {
+    plain_deposit, plain_encode_2d, plain_encode_3d, plain_decode_2d, plain_decode_3d,
+    plain_cell,    plain_index_2d,  plain_index_3d,  plain_rcb_2d,    plain_rcb_3d,
+};
+static const struct side empty = {
+    empty_deposit, empty_encode_2d, empty_encode_3d, empty_decode_2d, empty_decode_3d,
+    empty_cell,    empty_index_2d,  empty_index_3d,  empty_rcb_2d,    empty_rcb_3d,
+};
+
+struct operation {
+    const char *name;
+    uint32_t bits, inputs, points, order, sides[3];
+    void (*run)(const struct side *, const struct operation *, uint32_t calls);
+    const char *words;
+};
+
+/* INPUTS AND ANSWERS */
+
+static uint64_t numbers[3][INPUTS], weights[CELLS];
+static double values[3][POINTS];
+
+static struct {
+    uint64_t refused, wide[3][POINTS];
+    uint32_t splits[NODES], ids[CELLS];
+} answers, others;
+
+static uint64_t draw(void) {
+    static uint64_t state = 1;
+    uint64_t z = (state += 0x9e3779b97f4a7c15u);
+    z = (z ^ (z >> 30)) * 0xbf58476d1ce4e5b9u;
+    z = (z ^ (z >> 27)) * 0x94d049bb133111ebu;
+    return z ^ (z >> 31);
+}
+
+static size_t cells_of(const struct operation *o) { return (size_t)o->sides[0] * o->sides[1] * o->sides[2]; }
+
+/* numbers of so many bits, the highest set; values from -50 to 50; weights from 1 to 100 */
+static void draw_inputs(const struct operation *o) {
+    for (int a = 0; a < 3; a++) {
+        for (int i = 0; i < INPUTS; i++)
+            numbers[a][i] = (draw() >> 1 | UINT64_C(1) << 62) >> (63 - o->bits);
+        for (int i = 0; i < POINTS; i++)
+            values[a][i] = (double)(draw() >> 11) * 0x1p-53 * 100 - 50;
+    }
+    for (size_t i = 0; i < cells_of(o); i++)
+        weights[i] = 1 + draw() % 100;
+}
+
+/* OPERATIONS: each calls a side's function so many times */
+
+static void run_deposit(const struct side *s, const struct operation *o, uint32_t calls) {
+    for (uint32_t i = 0; i < calls; i++)
+        answers.wide[0][i % INPUTS] = s->deposit(numbers[0][i % INPUTS], 0xaaaaaaaaaaaaaaaau);
+}
+
+static void run_encode_2d(const struct side *s, const struct operation *o, uint32_t calls) {
+    for (uint32_t i = 0; i < calls; i++) {
+        uint32_t k = i % INPUTS;
+        answers.refused |= s->encode_2d(numbers[0][k], numbers[1][k], o->order, &answers.wide[0][k]);
+    }
+}
+
+static void run_encode_3d(const struct side *s, const struct operation *o, uint32_t calls) {
+    for (uint32_t i = 0; i < calls; i++) {
+        uint32_t k = i % INPUTS;
+        answers.refused |= s->encode_3d(numbers[0][k], numbers[1][k], numbers[2][k], o->order, &answers.wide[0][k]);
+    }
+}
+
+static void run_decode_2d(const struct side *s, const struct operation *o, uint32_t calls) {
+    for (uint32_t i = 0; i < calls; i++) {
+        uint32_t k = i % INPUTS;
+        answers.refused |= s->decode_2d(numbers[0][k], o->order, &answers.wide[0][k], &answers.wide[1][k]);
+    }
+}
+
+static void run_decode_3d(const struct side *s, const struct operation *o, uint32_t calls) {
+    for (uint32_t i = 0; i < calls; i++) {
+        uint32_t k = i % INPUTS;
+        answers.refused |=
+            s->decode_3d(numbers[0][k], o->order, &answers.wide[0][k], &answers.wide[1][k], &answers.wide[2][k]);
+    }
+}
+
+static void run_cell(const struct side *s, const struct operation *o, uint32_t calls) {
+    for (uint32_t i = 0; i < calls; i++) {
+        uint32_t k = i % INPUTS;
+        answers.refused |= s->cell(-50, 50, o->order, values[0][k], &answers.wide[0][k]);
+    }
+}
+
+static void run_index_2d(const struct side *s, const struct operation *o, uint32_t calls) {
+    for (uint32_t i = 0; i < calls; i++)
+        answers.refused |= s->index_2d(values[0], POINTS, values[1], POINTS, o->order, answers.wide[0], POINTS);
+}
+
+static void run_index_3d(const struct side *s, const struct operation *o, uint32_t calls) {
+    for (uint32_t i = 0; i < calls; i++)
+        answers.refused |=
+            s->index_3d(values[0], POINTS, values[1], POINTS, values[2], POINTS, o->order, answers.wide[0], POINTS);
+}
+
+static void run_rcb_2d(const struct side *s, const struct operation *o, uint32_t calls) {
+    size_t cells = cells_of(o), nodes = ((size_t)1 << o->order) - 1;
+    for (uint32_t i = 0; i < calls; i++)
+        answers.refused |=
+            s->rcb_2d(o->sides[0], o->sides[1], o->order, weights, cells, answers.splits, nodes, answers.ids, cells);
+}
+
+static void run_rcb_3d(const struct side *s, const struct operation *o, uint32_t calls) {
+    size_t cells = cells_of(o), nodes = ((size_t)1 << o->order) - 1;
+    for (uint32_t i = 0; i < calls; i++)
+        answers.refused |= s->rcb_3d(o->sides[0], o->sides[1], o->sides[2], o->order, weights, cells, answers.splits, nodes,
+                                     answers.ids, cells);
+}
+
+static const struct operation operations[] = {
+    {"deposit-12", 12, INPUTS, 1, 0, {0}, run_deposit, "deposit of 12 bits"},
+    {"deposit-30", 30, INPUTS, 1, 0, {0}, run_deposit, "deposit of 30 bits"},
+    {"encode_2d-12", 12, INPUTS, 1, 12, {0}, run_encode_2d, "encode_2d at order 12"},
+    {"encode_2d-30", 30, INPUTS, 1, 30, {0}, run_encode_2d, "encode_2d at order 30"},
+    {"encode_3d-12", 12, INPUTS, 1, 12, {0}, run_encode_3d, "encode_3d at order 12"},
+    {"encode_3d-21", 21, INPUTS, 1, 21, {0}, run_encode_3d, "encode_3d at order 21"},
+    {"decode_2d-12", 24, INPUTS, 1, 12, {0}, run_decode_2d, "decode_2d at order 12"},
+    {"decode_2d-30", 60, INPUTS, 1, 30, {0}, run_decode_2d, "decode_2d at order 30"},
+    {"decode_3d-12", 36, INPUTS, 1, 12, {0}, run_decode_3d, "decode_3d at order 12"},
+    {"decode_3d-21", 63, INPUTS, 1, 21, {0}, run_decode_3d, "decode_3d at order 21"},
+    {"cell-12", 0, INPUTS, 1, 12, {0}, run_cell, "cell at order 12"},
+    {"index_2d-12", 0, 1, POINTS, 12, {0}, run_index_2d, "index_2d at order 12, a point of 500"},
+    {"index_2d-30", 0, 1, POINTS, 30, {0}, run_index_2d, "index_2d at order 30, a point of 500"},
+    {"index_3d-12", 0, 1, POINTS, 12, {0}, run_index_3d, "index_3d at order 12, a point of 500"},
+    {"index_3d-21", 0, 1, POINTS, 21, {0}, run_index_3d, "index_3d at order 21, a point of 500"},
+    {"rcb_2d-32", 0, 1, 1, 8, {32, 32, 1}, run_rcb_2d, "rcb_2d of 32 by 32 at depth 8"},
+    {"rcb_2d-256", 0, 1, 1, 8, {256, 256, 1}, run_rcb_2d, "rcb_2d of 256 by 256 at depth 8"},
+    {"rcb_3d-16", 0, 1, 1, 6, {16, 16, 16}, run_rcb_3d, "rcb_3d of 16 by 16 by 16 at depth 6"},
+};
+enum { OPERATIONS = sizeof operations / sizeof *operations };
+
+/* the two sides answer all inputs, and alike */
+static int alike(const struct operation *o) {
+    o->run(&library, o, o->inputs);
+    memcpy(&others, &answers, sizeof others);
+    memset(&answers, 0, sizeof answers);
+    o->run(&plain, o, o->inputs);
+    return !answers.refused && memcmp(&others, &answers, sizeof others) == 0;
+}
+
+int main(int argc, char **argv) {
+    if (argc == 1) {
+        for (int i = 0; i < OPERATIONS; i++)
+            printf("%s %u %u %s\n", operations[i].name, operations[i].inputs, operations[i].points, operations[i].words);
+        return 0;
+    }
+    for (int i = 0; argc == 4 && i < OPERATIONS; i++) {
+        const struct operation *o = &operations[i];
+        if (strcmp(argv[1], o->name) != 0)
+            continue;
+        draw_inputs(o);
+        if (!alike(o)) {
+            fprintf(stderr, "count: the answers of %s differ\n", o->name);
+            return 1;
+        }
+        const struct side *s = argv[2][0] == 'l' ? &library : argv[2][0] == 'p' ? &plain : &empty;
+        o->run(s, o, o->inputs * (uint32_t)(argv[3][0] - '0'));
+        return 0;
+    }
+    fprintf(stderr, "usage: count [OPERATION library|plain|empty TIMES]\n");
+    return 2;
+}

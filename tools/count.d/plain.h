@@ -1,0 +1,18 @@
+/* The calls of skarvolm.h in plain C: the same arguments, the same answers and the same refusals. */
+#include <stddef.h>
+#include <stdint.h>
+
+uint64_t plain_deposit(uint64_t source, uint64_t mask);
+uint32_t plain_encode_2d(uint64_t x, uint64_t y, uint32_t order, uint64_t *index);
+uint32_t plain_encode_3d(uint64_t x, uint64_t y, uint64_t z, uint32_t order, uint64_t *index);
+uint32_t plain_decode_2d(uint64_t index, uint32_t order, uint64_t *x, uint64_t *y);
+uint32_t plain_decode_3d(uint64_t index, uint32_t order, uint64_t *x, uint64_t *y, uint64_t *z);
+uint32_t plain_cell(double low, double high, uint32_t order, double value, uint64_t *cell);
+uint32_t plain_index_2d(const double *xs, size_t xs_length, const double *ys, size_t ys_length, uint32_t order,
+                        uint64_t *indices, size_t indices_length);
+uint32_t plain_index_3d(const double *xs, size_t xs_length, const double *ys, size_t ys_length, const double *zs,
+                        size_t zs_length, uint32_t order, uint64_t *indices, size_t indices_length);
+uint32_t plain_rcb_2d(uint32_t width, uint32_t height, uint32_t depth, const uint64_t *weights, size_t weights_length,
+                      uint32_t *splits, size_t splits_length, uint32_t *ids, size_t ids_length);
+uint32_t plain_rcb_3d(uint32_t width, uint32_t height, uint32_t layers, uint32_t depth, const uint64_t *weights,
+                      size_t weights_length, uint32_t *splits, size_t splits_length, uint32_t *ids, size_t ids_length);
