@@ -13,7 +13,7 @@ ghost use mathlib.Core.Path.{_≡_};
 ghost use mathlib.Core.Bool.{false, cond};
 ghost use Prim.Native.Nat.{_≤_};
 ghost use lib.Ieee.{binary64, toBits, lt, eq, isNan};
-ghost use Rattle.rules.specs.Refusals.{nought, width, valueUnfit, axisThin, refuseAxis, refuseCell, readAxis};
+ghost use Rattle.rules.specs.Refusals.{firstOf, nought, width, valueUnfit, axisThin, axisTests, cellTests, readAxis};
 ghost use Rattle.rules.specs.Curve.{defaultOrder};
 ghost use Rattle.rules.specs.Axis.{nextDown, factorOf, makeAxis, lowOf, highOf, orderOf, sameBits, madeUp, cellOn, cellOf, widen, extentOf};
 use rules::ANSWERED;
@@ -64,7 +64,7 @@ fn next_down(f: f64) -> f64
 
 // The factor of a sloped axis: 2^order / width, stepped down while its product with the width reaches 2^order.
 fn factor_of(low: f64, high: f64, order: u32) -> f64
-    requires { ⌜ refuseAxis low high order ≡ 0 ⌝ }
+    requires { ⌜ firstOf (axisTests low high order) ≡ 0 ⌝ }
     requires { ⌜ eq (width low high) nought ≡ false ⌝ }
     ensures { λ r. ⌜ r ≡ factorOf low high order ⌝ }
 {
@@ -192,7 +192,7 @@ fn made_up(axis: Axis) -> bool
 
 // The cell of a value on an axis that accepts it.
 pub fn cell_on(axis: Axis, value: f64) -> u64
-    requires { ⌜ refuseCell (madeUp axis) (lowOf axis) (highOf axis) value ≡ 0 ⌝ }
+    requires { ⌜ firstOf (cellTests (madeUp axis) (lowOf axis) (highOf axis) value) ≡ 0 ⌝ }
     ensures { λ r. ⌜ r ≡ cellOn axis value ⌝ }
 {
     match axis {

@@ -8,7 +8,7 @@ use lib.IntN.{negsuc}
 use lib.Dec.{T}
 use lib.Ieee.{Float, fin, binary64, fits, toBits, le, lt, eq, mul, div}
 use lib.Ieee.Positive.{positive}
-use Rattle.rules.specs.Refusals.{nought, width, axisThin, refuseAxis, valueUnfit}
+use Rattle.rules.specs.Refusals.{firstOf, top2, nought, width, axisThin, axisTests, valueUnfit}
 use Rattle.rules.specs.Axis.{cellCount, nextDown, descend, descendFrom, factorOf}
 use Rattle.axis_laws.proofs.AtMost.{nlt→le}
 use Rattle.axis_laws.proofs.MulMono.{nonneg, cross→lt, positive-nonneg, true-of}
@@ -18,13 +18,13 @@ use Rattle.axis_laws.proofs.OneStep.{num-pos, one-step}
 use Rattle.axis_laws.proofs.ProductBelow.{Ready, ready, product}
 use Rattle.axis_laws.proofs.Passed.{sound, fit-low, fit-high, fit-finite}
 
-pub few : (order : ℕ) → order ≤ 30 → order ≤ 32
+pub few : (order : ℕ) → order ≤ top2 → order ≤ 32
 few order h = omega arith
 
 above-nought : (w : Float) → T (positive w) → lt nought w ≡ true
 above-nought w p = true-of (lt nought w) (cross→lt nought w tt (positive-nonneg w p) (let g = num-pos w p in omega arith))
 
-module _ (low high : Float) (order : ℕ) (answered : refuseAxis low high order ≡ 0) (sloped : eq (width low high) nought ≡ false) where
+module _ (low high : Float) (order : ℕ) (answered : firstOf (axisTests low high order) ≡ 0) (sloped : eq (width low high) nought ≡ false) where
   pub wide : T (positive (width low high))
   wide =
       let s = sound low high order answered in

@@ -9,7 +9,7 @@ use borrow.Author.Tests.{le-ltb}
 use lib.ListN.{length, getD}
 use lib.Ieee.{Float, eq}
 use Rattle.rules.specs.Sums.{any}
-use Rattle.rules.specs.Refusals.{top2, nought, width, refuse, valueUnfit, orderOver, refuseAxis, refuseCell, axisBy, cellBy}
+use Rattle.rules.specs.Refusals.{firstOf, top2, nought, width, refuse, valueUnfit, orderOver, axisTests, cellTests, axisBy, cellBy}
 use Rattle.rules.specs.Axis.{factorOf, axisOf, makeAxis, lowOf, highOf, orderOf, madeUp, cellOf, extentOf}
 use Rattle.rules.specs.Knots.{thinOver, axisOver, knot}
 use Rattle.rules.specs.declared.Axis.{Axis}
@@ -34,7 +34,7 @@ ends-of low high order = go (eq (width low high) nought)
     go false = (refl, refl, refl)
 
 -- and its factor is an f64
-in-format : (low high : Float) (order : ℕ) → refuseAxis low high order ≡ 0 → T (inFormat (axisOf low high order))
+in-format : (low high : Float) (order : ℕ) → firstOf (axisTests low high order) ≡ 0 → T (inFormat (axisOf low high order))
 unfolding axisOf
 in-format low high order e = go (eq (width low high) nought) refl
   where
@@ -43,19 +43,19 @@ in-format low high order e = go (eq (width low high) nought) refl
     go false w = factor-ends low high order e w .2
 
 module _ (xs : List Float) (order : ℕ) (some : 0 < length xs) (fit : any valueUnfit xs ≡ false) where
-  pub refused-order-or-thin : refuseAxis (extentOf xs .low) (extentOf xs .high) order ≡ refuse (orderOver top2 order) 1 (refuse (thinOver xs) 7 0)
-  unfolding refuseAxis any
+  pub refused-order-or-thin : firstOf (axisTests (extentOf xs .low) (extentOf xs .high) order) ≡ refuse (orderOver top2 order) 1 (refuse (thinOver xs) 7 0)
+  unfolding axisTests any
   refused-order-or-thin =
       let p = extent-proper xs some fit in
       let o = at-most→nlt (extentOf xs .high) (extentOf xs .low) (fit-finite _ (p .high-fit)) (fit-finite _ (p .low-fit)) (p .ordered) in
       rw (p .low-fit, p .high-fit, o)
 
   -- its answer, by whether it is thin
-  by-thin : order ≤ 30 → makeAxis (extentOf xs .low) (extentOf xs .high) order ≡ axisBy (refuse (thinOver xs) 7 0) (axisOver xs order)
+  by-thin : order ≤ top2 → makeAxis (extentOf xs .low) (extentOf xs .high) order ≡ axisBy (refuse (thinOver xs) 7 0) (axisOver xs order)
   unfolding makeAxis axisOver
-  by-thin few = rw (refused-order-or-thin, le-ltb 30 order few)
+  by-thin few = rw (refused-order-or-thin, le-ltb top2 order few)
 
-  pub over-refused : (n : ℕ) → order ≤ 30 → makeAxis (extentOf xs .low) (extentOf xs .high) order ≡ made.Refused n → (thinOver xs ≡ true) × (n ≡ 7)
+  pub over-refused : (n : ℕ) → order ≤ top2 → makeAxis (extentOf xs .low) (extentOf xs .high) order ≡ made.Refused n → (thinOver xs ≡ true) × (n ≡ 7)
   unfolding axisBy
   over-refused n few e = go (thinOver xs) (sym (by-thin few) ∙ e)
     where
@@ -63,7 +63,7 @@ module _ (xs : List Float) (order : ℕ) (some : 0 < length xs) (fit : any value
       go true p = (refl, cc)
       go false p = let y : _≡_ {A = ℕ} 0 1 = cc in absurd (omega arith)
 
-  pub over-made : (a : Axis) → order ≤ 30 → makeAxis (extentOf xs .low) (extentOf xs .high) order ≡ made.Made a → (thinOver xs ≡ false) × (a ≡ axisOver xs order)
+  pub over-made : (a : Axis) → order ≤ top2 → makeAxis (extentOf xs .low) (extentOf xs .high) order ≡ made.Made a → (thinOver xs ≡ false) × (a ≡ axisOver xs order)
   unfolding axisBy
   over-made a few e = go (thinOver xs) (sym (by-thin few) ∙ e)
     where
@@ -71,9 +71,9 @@ module _ (xs : List Float) (order : ℕ) (some : 0 < length xs) (fit : any value
       go true p = let y : _≡_ {A = ℕ} 0 1 = cc in absurd (omega arith)
       go false p = (refl, cc)
 
-  module _ (few : order ≤ 30) (thick : thinOver xs ≡ false) where
-    pub not-refused : refuseAxis (extentOf xs .low) (extentOf xs .high) order ≡ 0
-    not-refused = refused-order-or-thin ∙ rw (le-ltb 30 order few, thick)
+  module _ (few : order ≤ top2) (thick : thinOver xs ≡ false) where
+    pub not-refused : firstOf (axisTests (extentOf xs .low) (extentOf xs .high) order) ≡ 0
+    not-refused = refused-order-or-thin ∙ rw (le-ltb top2 order few, thick)
 
     pub made-over : makeAxis (extentOf xs .low) (extentOf xs .high) order ≡ made.Made (axisOver xs order)
     unfolding makeAxis axisBy axisOver
@@ -85,7 +85,7 @@ module _ (xs : List Float) (order : ℕ) (some : 0 < length xs) (fit : any value
         let e = ends-of (extentOf xs .low) (extentOf xs .high) order in
         not-made-up (axisOver xs order) (rw (e .0, e .1, e .2) made-over)
 
-    pub accepts : (i : ℕ) → i < length xs → let a = axisOver xs order in refuseCell (madeUp a) (lowOf a) (highOf a) (getD xs i nought) ≡ 0
+    pub accepts : (i : ℕ) → i < length xs → let a = axisOver xs order in firstOf (cellTests (madeUp a) (lowOf a) (highOf a) (getD xs i nought)) ≡ 0
     unfolding axisOver
     accepts i h =
         let x = getD xs i nought in

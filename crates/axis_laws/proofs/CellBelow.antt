@@ -6,7 +6,7 @@ use mathlib.Core.Bool.{false}
 use lib.Dec.{T}
 use lib.Pow.{pow-pos}
 use lib.Ieee.{Float, binary64, fits, eq}
-use Rattle.rules.specs.Refusals.{nought, width, refuseAxis, refuseCell, cellBy}
+use Rattle.rules.specs.Refusals.{firstOf, nought, width, axisTests, cellTests, cellBy}
 use Rattle.rules.specs.Axis.{factorOf, lowOf, highOf, orderOf, madeUp, cellOn, cellOf}
 use Rattle.rules.specs.declared.Axis.{Axis}
 use Rattle.rules.specs.declared.Axis.the-variants.{Flat, Sloped}
@@ -18,7 +18,7 @@ use Rattle.axis_laws.proofs.MadeUp.{answered, made-sloped, inFormat, ma
 
 -- a sloped axis that is not made up
 pub record Slope (low high : Float) (order : ℕ) (factor : Float) : Type 0 where
-  pub answered : refuseAxis low high order ≡ 0
+  pub answered : firstOf (axisTests low high order) ≡ 0
   pub wide : eq (width low high) nought ≡ false
   pub is-factor : factor ≡ factorOf low high order
 
@@ -29,7 +29,7 @@ slope low high order factor i e =
     record { answered = r .0; wide = k .1; is-factor = k .2 }
 
 -- a value that a sloped axis accepts
-module _ (low high : Float) (order : ℕ) (factor value : Float) (f64 : T (fits binary64 factor)) (accepted : refuseCell (madeUp (Sloped low high order factor)) low high value ≡ 0) where
+module _ (low high : Float) (order : ℕ) (factor value : Float) (f64 : T (fits binary64 factor)) (accepted : firstOf (cellTests (madeUp (Sloped low high order factor)) low high value) ≡ 0) where
   accepting : Slope low high order factor
   accepting = slope low high order factor f64 (inside (madeUp (Sloped low high order factor)) low high value accepted .made)
 
@@ -42,15 +42,15 @@ module _ (low high : Float) (order : ℕ) (factor value : Float) (f64 : T (fits 
       let i = inside (madeUp (Sloped low high order factor)) low high value accepted in
       subst (λ (f : Float). Ready (product f value low) order) (sym (s .is-factor)) (factor-ready low high order (s .answered) (s .wide) value (i .value-fit) (i .not-below) (i .not-above))
 
-pub on-below : (a : Axis) (value : Float) → T (inFormat a) → refuseCell (madeUp a) (lowOf a) (highOf a) value ≡ 0 → cellOn a value < 2 ^ orderOf a
+pub on-below : (a : Axis) (value : Float) → T (inFormat a) → firstOf (cellTests (madeUp a) (lowOf a) (highOf a) value) ≡ 0 → cellOn a value < 2 ^ orderOf a
 unfolding cellOn
 on-below (Flat low high order) value i e = pow-pos order
 on-below (Sloped low high order factor) value i e = ready-cell (product factor value low) order (accepted-ready low high order factor value i e)
 
 pub cell-below : (a : Axis) (value : Float) (c : ℕ) → T (inFormat a) → cellOf a value ≡ found.Cell c → c < 2 ^ orderOf a
 unfolding cellOf cellBy
-cell-below a value c i e = go (refuseCell (madeUp a) (lowOf a) (highOf a) value) refl e
+cell-below a value c i e = go (firstOf (cellTests (madeUp a) (lowOf a) (highOf a) value)) refl e
   where
-    go : (n : ℕ) → refuseCell (madeUp a) (lowOf a) (highOf a) value ≡ n → cellBy n (cellOn a value) ≡ found.Cell c → c < 2 ^ orderOf a
+    go : (n : ℕ) → firstOf (cellTests (madeUp a) (lowOf a) (highOf a) value) ≡ n → cellBy n (cellOn a value) ≡ found.Cell c → c < 2 ^ orderOf a
     go zero p q = let z : cellOn a value ≡ c = cc in subst (λ (k : ℕ). k < 2 ^ orderOf a) z (on-below a value i p)
     go (suc n) p q = let y : _≡_ {A = ℕ} 0 1 = cc in absurd (omega arith)

@@ -8,7 +8,7 @@ use lib.Dec.{T, eqb, eqb→eq}
 use borrow.Author.Tests.{not-false, eq-eqb}
 use lib.Ieee.{Float, nan, inf, fin, binary64, fits, isNan, toBits, ofBits, eq}
 use lib.Ieee.Bits.{ofBits-toBits}
-use Rattle.rules.specs.Refusals.{nought, width, refuseAxis, axisBy}
+use Rattle.rules.specs.Refusals.{firstOf, nought, width, axisTests, axisBy}
 use Rattle.rules.specs.Axis.{factorOf, axisOf, makeAxis, lowOf, highOf, orderOf, sameBits, isAnew, madeUp}
 use Rattle.rules.specs.declared.Axis.{Axis}
 use Rattle.rules.specs.declared.Axis.the-variants.{Flat, Sloped}
@@ -19,11 +19,11 @@ use Rattle.axis_laws.proofs.MulMono.{nonneg}
 use Rattle.axis_laws.proofs.AtMostOneStep.{factor-ends}
 
 -- an answer that is an axis
-pub answered : (low high : Float) (order : ℕ) (a : Axis) → makeAxis low high order ≡ made.Made a → (refuseAxis low high order ≡ 0) × (axisOf low high order ≡ a)
+pub answered : (low high : Float) (order : ℕ) (a : Axis) → makeAxis low high order ≡ made.Made a → (firstOf (axisTests low high order) ≡ 0) × (axisOf low high order ≡ a)
 unfolding makeAxis axisBy
-answered low high order a e = go (refuseAxis low high order) refl e
+answered low high order a e = go (firstOf (axisTests low high order)) refl e
   where
-    go : (n : ℕ) → refuseAxis low high order ≡ n → axisBy n (axisOf low high order) ≡ made.Made a → (refuseAxis low high order ≡ 0) × (axisOf low high order ≡ a)
+    go : (n : ℕ) → firstOf (axisTests low high order) ≡ n → axisBy n (axisOf low high order) ≡ made.Made a → (firstOf (axisTests low high order) ≡ 0) × (axisOf low high order ≡ a)
     go zero p q = (p, cc)
     go (suc n) p q = let y : _≡_ {A = ℕ} 0 1 = cc in absurd (omega arith)
 

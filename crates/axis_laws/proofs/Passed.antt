@@ -1,7 +1,6 @@
 -- What the tests of document 01 say once they are passed: of a value, of an axis, of a value on an axis. Assumes nothing.
-use mathlib.Core.Path.{_≡_, refl, sym, subst}
-use Prim.Native.Nat.{ℕ, suc, _≤_}
-use native.Mathlib.Omega.{arith}
+use mathlib.Core.Path.{_≡_, sym, subst}
+use Prim.Native.Nat.{ℕ, _≤_}
 use mathlib.Core.Bool.{Bool, true, false, _&&_, _||_}
 use mathlib.Core.List.{[], _∷_}
 use lib.IntN.{pos}
@@ -10,14 +9,11 @@ use borrow.Author.Tests.{ltb-false, not-false}
 use lib.Ieee.{Float, fin, le, lt}
 use lib.Ieee.Scale.{finite}
 use Rattle.rules.specs.Sums.{any}
-use Rattle.rules.specs.Refusals.{top2, refuse, valueUnfit, axisThin, reversed, outside, orderOver, refuseAxis, refuseCell}
+use Rattle.rules.specs.Refusals.{firstOf, top2, valueUnfit, axisThin, axisTests, cellTests}
 use Rattle.laws.proofs.Any.{neither}
+use Rattle.laws.proofs.Exactly.{none-passes}
 use Rattle.axis_laws.proofs.SubMono.{and-l, and-r}
 use Rattle.axis_laws.proofs.Width.{in-size-finite}
-
-pub passed : (b : Bool) (n later : ℕ) → refuse b (suc n) later ≡ 0 → (b ≡ false) × (later ≡ 0)
-passed true n later e = absurd (omega arith)
-passed false n later e = (refl, e)
 
 -- A FIT VALUE
 
@@ -37,21 +33,24 @@ fit-finite x e = in-size-finite x (fit-low x e) (fit-high x e)
 -- AN AXIS
 
 pub record Sound (low high : Float) (order : ℕ) : Type 0 where
-  pub order-fit : order ≤ 30
+  pub order-fit : order ≤ top2
   pub low-fit : valueUnfit low ≡ false
   pub high-fit : valueUnfit high ≡ false
   pub ordered : lt high low ≡ false
   pub not-thin : axisThin low high ≡ false
 
-pub sound : (low high : Float) (order : ℕ) → refuseAxis low high order ≡ 0 → Sound low high order
-unfolding refuseAxis any
+pub sound : (low high : Float) (order : ℕ) → firstOf (axisTests low high order) ≡ 0 → Sound low high order
+unfolding axisTests any
 sound low high order e =
-    let a = passed (orderOver top2 order) 0 _ e in
-    let b = passed (any valueUnfit (low ∷ high ∷ [])) 5 _ (a .1) in
-    let c = passed (reversed low high) 7 _ (b .1) in
-    let d = passed (axisThin low high) 6 0 (c .1) in
-    let l = neither (valueUnfit low) (valueUnfit high || false) (b .0) in
-    record { order-fit = ltb-false 30 order (a .0); low-fit = l .0; high-fit = neither (valueUnfit high) false (l .1) .0; ordered = c .0; not-thin = d .0 }
+    let none = none-passes (axisTests low high order) tt e in
+    let l = neither (valueUnfit low) (valueUnfit high || false) (none .1 .0) in
+    record {
+      order-fit = ltb-false top2 order (none .0);
+      low-fit = l .0;
+      high-fit = neither (valueUnfit high) false (l .1) .0;
+      ordered = none .1 .1 .0;
+      not-thin = none .1 .1 .1 .0;
+    }
 
 -- A VALUE ON AN AXIS
 
@@ -61,15 +60,13 @@ pub record Inside (madeUp : Bool) (low high value : Float) : Type 0 where
   pub not-below : lt value low ≡ false
   pub not-above : lt high value ≡ false
 
-pub inside : (madeUp : Bool) (low high value : Float) → refuseCell madeUp low high value ≡ 0 → Inside madeUp low high value
-unfolding refuseCell
+pub inside : (madeUp : Bool) (low high value : Float) → firstOf (cellTests madeUp low high value) ≡ 0 → Inside madeUp low high value
+unfolding cellTests
 inside madeUp low high value e =
-    let a = passed madeUp 7 _ e in
-    let b = passed (valueUnfit value) 5 _ (a .1) in
-    let c = passed (outside low high value) 7 0 (b .1) in
-    let d = neither (lt value low) (lt high value) (c .0) in
-    record { made = a .0; value-fit = b .0; not-below = d .0; not-above = d .1 }
+    let none = none-passes (cellTests madeUp low high value) tt e in
+    let d = neither (lt value low) (lt high value) (none .1 .1 .0) in
+    record { made = none .0; value-fit = none .1 .0; not-below = d .0; not-above = d .1 }
 
-pub inside-answered : (madeUp : Bool) (low high value : Float) → Inside madeUp low high value → refuseCell madeUp low high value ≡ 0
-unfolding refuseCell
+pub inside-answered : (madeUp : Bool) (low high value : Float) → Inside madeUp low high value → firstOf (cellTests madeUp low high value) ≡ 0
+unfolding cellTests
 inside-answered madeUp low high value i = simp (i .made, i .value-fit, i .not-below, i .not-above)

@@ -2,74 +2,65 @@
 use Prim.Native.Nat.{ℕ, _<_}
 use mathlib.Core.Path.{_≡_}
 use mathlib.Core.List.{List, [], _∷_}
-use lib.ListN.{length}
 use lib.Ieee.{Float}
-use Rattle.rules.specs.Refusals.{nought, top2, top3, Reading, refuseEncode, refuseDecode, refuseAxis, refuseCell, refuseIndexAll, refuseHalving, readCoded, readCell2, readCell3, readAxis, readCell}
+use Rattle.rules.specs.Refusals.{nought, top2, top3, encodeTests, decodeTests, axisTests, cellTests, indexTests, gridTests, readCoded, readCell2, readCell3, readAxis, readCell}
 use Rattle.rules.specs.Curve.{encode2, encode3, decode2, decode3}
 use Rattle.rules.specs.Axis.{makeAxis, madeUp, lowOf, highOf, cellOf}
-use Rattle.rules.specs.Knots.{someUnfit, someThin, indexAll2, indexAll3}
-use Rattle.rules.specs.Halving.{Halving, halve}
-use Rattle.rules.specs.Demands.{Test, Exactly, encodeTests, decodeTests, axisTests, cellTests, indexTests, halvingTests, DecodeEncode2, EncodeDecode2, DecodeEncode3, EncodeDecode3, Demand3In2D, Demand3In3D}
+use Rattle.rules.specs.Knots.{index2Tests, index3Tests, indexAll2, indexAll3}
+use Rattle.rules.specs.Halving.{Halving, halvingTests, halve}
+use Rattle.rules.specs.Demands.{Exactly, DecodeEncode2, EncodeDecode2, DecodeEncode3, EncodeDecode3, Demand3In2D, Demand3In3D}
 use Rattle.rules.specs.declared.Axis.{Axis}
 use Rattle.rules.specs.declared.Axis.the-variants.{Flat}
+use Rattle.laws.proofs.Exactly.{exactly, Refuses, refuses, untouched}
 use Rattle.laws.proofs.Readings.{read-coded, read-cell2, read-cell3, read-axis, read-cell}
 use Rattle.curve_laws.proofs.Demand2.{decode-encode-2d, encode-decode-2d, decode-encode-3d, encode-decode-3d}
 use Rattle.halving_laws.proofs.Demand3.{demand-3-in-2d, demand-3-in-3d}
-use Rattle.demands.proofs.Exactly.{exactly, Refuses, refuses, untouched}
 
 -- DEMAND 1. "Any input gets an answer and every call ends. A public call tests its own input": each function of the crates is proved to
 -- return and has no `requires`; its contract is an equation with the definitions below, on every input. "A refusal is a number of
 -- document 01, given exactly when 01 says so, with result zero and every lent slice untouched":
 
 pub demand-1-encode-2d : (x y order : ℕ) → Refuses (encodeTests top2 order (x ∷ y ∷ [])) (readCoded (encode2 x y order)) 0
-unfolding encode2 refuseEncode
+unfolding encode2 encodeTests
 demand-1-encode-2d x y order = rw read-coded (refuses _ _ _ 0 (exactly (encodeTests top2 order (x ∷ y ∷ [])) tt))
 
 pub demand-1-encode-3d : (x y z order : ℕ) → Refuses (encodeTests top3 order (x ∷ y ∷ z ∷ [])) (readCoded (encode3 x y z order)) 0
-unfolding encode3 refuseEncode
+unfolding encode3 encodeTests
 demand-1-encode-3d x y z order = rw read-coded (refuses _ _ _ 0 (exactly (encodeTests top3 order (x ∷ y ∷ z ∷ [])) tt))
 
 pub demand-1-decode-2d : (index order : ℕ) → Refuses (decodeTests 2 top2 order index) (readCell2 (decode2 index order)) (0 ∷ 0 ∷ [])
-unfolding decode2 refuseDecode
+unfolding decode2 decodeTests
 demand-1-decode-2d index order = rw read-cell2 (refuses _ _ _ _ (exactly (decodeTests 2 top2 order index) tt))
 
 pub demand-1-decode-3d : (index order : ℕ) → Refuses (decodeTests 3 top3 order index) (readCell3 (decode3 index order)) (0 ∷ 0 ∷ 0 ∷ [])
-unfolding decode3 refuseDecode
+unfolding decode3 decodeTests
 demand-1-decode-3d index order = rw read-cell3 (refuses _ _ _ _ (exactly (decodeTests 3 top3 order index) tt))
 
 pub demand-1-axis : (low high : Float) (order : ℕ) → Refuses (axisTests low high order) (readAxis (makeAxis low high order)) (Flat nought nought 0)
-unfolding makeAxis refuseAxis
+unfolding makeAxis axisTests
 demand-1-axis low high order = rw read-axis (refuses _ _ _ _ (exactly (axisTests low high order) tt))
 
 pub demand-1-cell : (a : Axis) (value : Float) → Refuses (cellTests (madeUp a) (lowOf a) (highOf a) value) (readCell (cellOf a value)) 0
-unfolding cellOf refuseCell
+unfolding cellOf cellTests
 demand-1-cell a value = rw read-cell (refuses _ _ _ 0 (exactly (cellTests (madeUp a) (lowOf a) (highOf a) value) tt))
-
-abbrev pub index2Tests : List Float → List Float → ℕ → List ℕ → List Test
-index2Tests xs ys order before =
-    indexTests top2 order (length xs) (length ys ∷ length before ∷ []) (someUnfit (xs ∷ ys ∷ [])) (someThin (xs ∷ ys ∷ []))
 
 pub demand-1-index-2d : (xs ys : List Float) (order : ℕ) (before : List ℕ)
     → Exactly (index2Tests xs ys order before) (indexAll2 xs ys order before .number)
     × (0 < indexAll2 xs ys order before .number → indexAll2 xs ys order before .indices ≡ before)
-unfolding indexAll2 refuseIndexAll
+unfolding indexAll2 indexTests
 demand-1-index-2d xs ys order before = (exactly (index2Tests xs ys order before) tt, untouched _ _ before)
-
-abbrev pub index3Tests : List Float → List Float → List Float → ℕ → List ℕ → List Test
-index3Tests xs ys zs order before =
-    indexTests top3 order (length xs) (length ys ∷ length zs ∷ length before ∷ []) (someUnfit (xs ∷ ys ∷ zs ∷ [])) (someThin (xs ∷ ys ∷ zs ∷ []))
 
 pub demand-1-index-3d : (xs ys zs : List Float) (order : ℕ) (before : List ℕ)
     → Exactly (index3Tests xs ys zs order before) (indexAll3 xs ys zs order before .number)
     × (0 < indexAll3 xs ys zs order before .number → indexAll3 xs ys zs order before .indices ≡ before)
-unfolding indexAll3 refuseIndexAll
+unfolding indexAll3 indexTests
 demand-1-index-3d xs ys zs order before = (exactly (index3Tests xs ys zs order before) tt, untouched _ _ before)
 
 -- of halvings in 2D and 3D alike
 pub demand-1-halving : (h : Halving) (ws splits ids : List ℕ)
     → Exactly (halvingTests h ws splits ids) (halve h ws splits ids .number)
     × (0 < halve h ws splits ids .number → (halve h ws splits ids .splits ≡ splits) × (halve h ws splits ids .ids ≡ ids))
-unfolding halve refuseHalving
+unfolding halve gridTests
 demand-1-halving h ws splits ids =
     (exactly (halvingTests h ws splits ids) tt, λ l. (untouched _ _ splits l, untouched _ _ ids l))
 

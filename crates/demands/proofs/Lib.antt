@@ -1,3 +1,2 @@
-pub mod Exactly
 pub mod Demands
 pub mod NotIdle

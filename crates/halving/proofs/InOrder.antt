@@ -9,7 +9,7 @@ use lib.ListN.{length}
 use borrow.Author.Tests.{eq-eqb, ne-eqb, le-ltb, lt-ltb}
 use Rattle.rules.specs.Sums.{any}
 use Rattle.rules.specs.Grid.{cells}
-use Rattle.rules.specs.Refusals.{sideUnfit, sidesUnfit, lengthsOff, gridLengthsOff, weightOver, refuseHalving}
+use Rattle.rules.specs.Refusals.{firstOf, sideUnfit, sidesUnfit, lengthsOff, gridLengthsOff, weightOver, gridTests}
 use Rattle.halving_laws.proofs.Accepted.{side-fits}
 
 -- Sides.
@@ -58,29 +58,29 @@ unfolding cells
 cells-are w h d = ap (λ (n : ℕ). w * (h * n)) (mul-one d)
 
 module _ (sides : List ℕ) (k : ℕ) (ws : List ℕ) (ni ns : ℕ) where
-  pub refused-sides : sidesUnfit sides ≡ true → 9 ≡ refuseHalving sides k ws ni ns
-  unfolding refuseHalving
+  pub refused-sides : sidesUnfit sides ≡ true → 9 ≡ firstOf (gridTests sides k ws ni ns)
+  unfolding gridTests
   refused-sides a = rw a
 
-  pub refused-depth : sidesUnfit sides ≡ false → 12 < k → 10 ≡ refuseHalving sides k ws ni ns
-  unfolding refuseHalving
+  pub refused-depth : sidesUnfit sides ≡ false → 12 < k → 10 ≡ firstOf (gridTests sides k ws ni ns)
+  unfolding gridTests
   refused-depth a b = rw (a, lt-ltb 12 k b)
 
-  pub refused-lengths : sidesUnfit sides ≡ false → k ≤ 12 → gridLengthsOff sides k (length ws) ni ns ≡ true → 5 ≡ refuseHalving sides k ws ni ns
-  unfolding refuseHalving
+  pub refused-lengths : sidesUnfit sides ≡ false → k ≤ 12 → gridLengthsOff sides k (length ws) ni ns ≡ true → 5 ≡ firstOf (gridTests sides k ws ni ns)
+  unfolding gridTests
   refused-lengths a b c = rw (a, le-ltb 12 k b, c)
 
   pub refused-weight : sidesUnfit sides ≡ false → k ≤ 12 → gridLengthsOff sides k (length ws) ni ns ≡ false → weightOver ws ≡ true
-      → 11 ≡ refuseHalving sides k ws ni ns
-  unfolding refuseHalving
+      → 11 ≡ firstOf (gridTests sides k ws ni ns)
+  unfolding gridTests
   refused-weight a b c d = rw (a, le-ltb 12 k b, c, d)
 
   pub not-refused : sidesUnfit sides ≡ false → k ≤ 12 → gridLengthsOff sides k (length ws) ni ns ≡ false → weightOver ws ≡ false
-      → 0 ≡ refuseHalving sides k ws ni ns
-  unfolding refuseHalving
+      → 0 ≡ firstOf (gridTests sides k ws ni ns)
+  unfolding gridTests
   not-refused a b c d = rw (a, le-ltb 12 k b, c, d)
 
 -- a plane and its one layer are refused alike
-pub one-layer : (w h k : ℕ) (ws : List ℕ) (ni ns : ℕ) → refuseHalving (w ∷ h ∷ 1 ∷ []) k ws ni ns ≡ refuseHalving (w ∷ h ∷ []) k ws ni ns
-unfolding refuseHalving any cells
+pub one-layer : (w h k : ℕ) (ws : List ℕ) (ni ns : ℕ) → firstOf (gridTests (w ∷ h ∷ 1 ∷ []) k ws ni ns) ≡ firstOf (gridTests (w ∷ h ∷ []) k ws ni ns)
+unfolding gridTests any cells
 one-layer w h k ws ni ns = refl

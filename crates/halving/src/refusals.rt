@@ -14,7 +14,7 @@ ghost use mathlib.Core.Path.{_≡_};
 ghost use Prim.Native.Nat.{_≤_, _-_, _^_};
 ghost use mathlib.Core.Bool.{_||_};
 ghost use mathlib.Core.List.{[], _∷_};
-ghost use Rattle.rules.specs.Refusals.{sideUnfit, sidesUnfit, lengthsOff, weightOver, refuseHalving};
+ghost use Rattle.rules.specs.Refusals.{firstOf, sideUnfit, sidesUnfit, lengthsOff, weightOver, gridTests};
 ghost use Rattle.cuts.specs.SubGrids.{space, sidesOf};
 
 // Whether a side is 0 or too long.
@@ -71,7 +71,7 @@ fn weight_over(weights: &[u64]) -> bool
 
 // The number of refusal of a call, 0 where it is answered.
 pub(crate) fn refusal(g: Grid, depth: u32, weights: &[u64], ids: usize, splits: usize) -> u32
-    ensures { λ r. ⌜ r ≡ refuseHalving (sidesOf space g) depth (now (weights .entry)) ids splits ⌝ }
+    ensures { λ r. ⌜ r ≡ firstOf (gridTests (sidesOf space g) depth (now (weights .entry)) ids splits) ⌝ }
 {
     if sides_unfit(g) {
         return REFUSED_SIDES;

@@ -2,61 +2,51 @@
 use Prim.Native.Nat.{ℕ, zero, suc, _-_, _^_, _≤_, _<_}
 use native.Mathlib.Omega.{arith}
 use mathlib.Core.Path.{_≡_, refl}
-use mathlib.Core.Bool.{Bool, true, false, not}
+use mathlib.Core.Bool.{false, not}
 use mathlib.Core.List.{List, [], _∷_}
 use lib.Dec.{eqb, ltb, lit≤}
 use lib.ListN.{getD, length}
 use borrow.Author.Tests.{eqb-true, eqb-false, ltb-false, not-false}
 use Rattle.rules.specs.Sums.{any}
 use Rattle.rules.specs.Grid.{cells, on}
-use Rattle.rules.specs.Refusals.{refuse, sideUnfit, sidesUnfit, depthOver, lengthsOff, gridLengthsOff, weightOver, refuseHalving}
-use Rattle.rules.specs.Halving.{Halving, refusalOf}
+use Rattle.rules.specs.Refusals.{topSide, topCells, topDepth, topWeight, sideUnfit, sidesUnfit, lengthsOff, gridTests}
+use Rattle.rules.specs.Halving.{Halving, halvingTests, refusalOf}
 use Rattle.laws.proofs.Any.{neither, none-at}
+use Rattle.laws.proofs.Exactly.{none-passes}
 use Rattle.halving_laws.specs.Accepted.{Accepted}
 
--- a test of a nonzero number did not pass, where the number is 0
-passed : (b : Bool) (n later : ℕ) → refuse b (suc n) later ≡ 0 → (b ≡ false) × (later ≡ 0)
-passed false n later e = (refl, e)
-passed true n later e = absurd (positive e)
-  where
-    positive : suc n ≡ 0 → ⊥
-    positive e = omega arith
-
-pub side-fits : (s : ℕ) → sideUnfit s ≡ false → (1 ≤ s) × (s ≤ 1024)
+pub side-fits : (s : ℕ) → sideUnfit s ≡ false → (1 ≤ s) × (s ≤ topSide)
 side-fits s e =
-    let t = neither (eqb s 0) (ltb 1024 s) e in
+    let t = neither (eqb s 0) (ltb topSide s) e in
     let some = eqb-false s 0 (t .0) in
-    (pos s some, ltb-false 1024 s (t .1))
+    (pos s some, ltb-false topSide s (t .1))
   where
     pos : (s : ℕ) → (s ≡ 0 → ⊥) → 1 ≤ s
     pos zero f = absurd (f refl)
     pos (suc s) f = omega arith
 
-pub sides-fit : (sides : List ℕ) → sidesUnfit sides ≡ false → ((a : ℕ) → a < length sides → (1 ≤ on sides a) × (on sides a ≤ 1024)) × (cells sides ≤ 65536)
+pub sides-fit : (sides : List ℕ) → sidesUnfit sides ≡ false → ((a : ℕ) → a < length sides → (1 ≤ on sides a) × (on sides a ≤ topSide)) × (cells sides ≤ topCells)
 sides-fit sides e =
-    let t = neither (any sideUnfit sides) (ltb 65536 (cells sides)) e in
-    (λ a l. side-fits (on sides a) (none-at sideUnfit 0 sides (t .0) a l), ltb-false 65536 (cells sides) (t .1))
+    let t = neither (any sideUnfit sides) (ltb topCells (cells sides)) e in
+    (λ a l. side-fits (on sides a) (none-at sideUnfit 0 sides (t .0) a l), ltb-false topCells (cells sides) (t .1))
 
 -- the i-th of some lengths
 length-fits : (n : ℕ) (lengths : List ℕ) → lengthsOff n lengths ≡ false → (i : ℕ) → i < length lengths → getD lengths i 0 ≡ n
 length-fits n lengths e i l = eqb-true _ n (not-false _ (none-at (λ m. not (eqb m n)) 0 lengths e i l))
 
 pub accepted : (h : Halving) (ws splits ids : List ℕ) → refusalOf h ws splits ids ≡ 0 → Accepted h ws splits ids
-unfolding refuseHalving
+unfolding gridTests
 accepted h ws splits ids e =
-    let a = passed (sidesUnfit (h .sides)) 8 _ e in
-    let b = passed (depthOver (h .depth)) 9 _ (a .1) in
-    let c = passed (gridLengthsOff (h .sides) (h .depth) (length ws) (length ids) (length splits)) 4 _ (b .1) in
-    let d = passed (weightOver ws) 10 _ (c .1) in
-    let fit = sides-fit (h .sides) (a .0) in
-    let long = neither (lengthsOff (cells (h .sides)) (length ws ∷ length ids ∷ [])) _ (c .0) in
+    let none = none-passes (halvingTests h ws splits ids) tt e in
+    let fit = sides-fit (h .sides) (none .0) in
+    let long = neither (lengthsOff (cells (h .sides)) (length ws ∷ length ids ∷ [])) _ (none .1 .1 .0) in
     let cell-lengths = length-fits (cells (h .sides)) (length ws ∷ length ids ∷ []) (long .0) in
     record {
       sides-fit = fit .0;
       few = fit .1;
-      shallow = ltb-false 12 (h .depth) (b .0);
+      shallow = ltb-false topDepth (h .depth) (none .1 .0);
       weights-long = cell-lengths 0 (lit≤ tt);
       ids-long = cell-lengths 1 (lit≤ tt);
       splits-long = length-fits (2 ^ h .depth - 1) (length splits ∷ []) (long .1) 0 (lit≤ tt);
-      light = λ i l. ltb-false 16777215 _ (none-at (ltb 16777215) 0 ws (d .0) i l);
+      light = λ i l. ltb-false topWeight _ (none-at (ltb topWeight) 0 ws (none .1 .1 .1 .0) i l);
     }

@@ -5,7 +5,7 @@ use mathlib.Core.List.{List}
 use lib.Dec.{lit≤}
 use lib.ListN.{getD, length}
 use Rattle.rules.specs.Grid.{cells, whole, allWeight}
-use Rattle.rules.specs.Refusals.{sliceBy}
+use Rattle.rules.specs.Refusals.{topWeight, sliceBy}
 use Rattle.rules.specs.Halving.{edition1, Halving, halving2, halving3, splitsBy, idsBy, halve}
 use Rattle.rules.specs.Demands.{Demand3Of, Demand3In2D, Demand3In3D}
 use Rattle.halving_laws.specs.Fair.{FairTree, Structured}
@@ -30,7 +30,7 @@ edition1-limits t h =
 pub weight-fits : {h : Halving} {ws splits ids : List ℕ} → Accepted h ws splits ids → allWeight (h .sides) ws < 2 ^ 45
 unfolding allWeight
 weight-fits {h} {ws} r =
-    omega (arith, r .few, total-le (λ c. getD ws c 0) 16777215 (cells (h .sides)) (λ c l. r .light c (omega (arith, r .weights-long))))
+    omega (arith, r .few, total-le (λ c. getD ws c 0) topWeight (cells (h .sides)) (λ c l. r .light c (omega (arith, r .weights-long))))
 
 module _ (h : Halving) (limits : (t : ℕ) → t < 2 ^ 45 → Limits (h .edition) t) (axis : h .first < length (h .sides)) where
   -- the rule's cuts are fair

@@ -6,16 +6,16 @@ use Prim.Native.Nat.{ℕ, suc}
 use lib.ListN.{length}
 use lib.Ieee.{Float}
 use Rattle.rules.specs.Sums.{list}
-use Rattle.rules.specs.Refusals.{top2, top3, refuseIndexAll, sliceBy}
+use Rattle.rules.specs.Refusals.{firstOf, top2, top3, indexTests, sliceBy}
 use Rattle.rules.specs.Curve.{plane, space, cell2, cell3, indexOf}
 use Rattle.rules.specs.Knots.{someUnfit, someThin, knot, indexAll2, indexAll3}
 
 -- the number of a call, by the tests of the values and of the axes
 abbrev pub number2 : List Float → List Float → ℕ → List ℕ → Bool → Bool → ℕ
-number2 xs ys order before unfit thin = refuseIndexAll top2 order (length xs) (length ys ∷ length before ∷ []) unfit thin
+number2 xs ys order before unfit thin = firstOf (indexTests top2 order (length xs) (length ys ∷ length before ∷ []) unfit thin)
 
 abbrev pub number3 : List Float → List Float → List Float → ℕ → List ℕ → Bool → Bool → ℕ
-number3 xs ys zs order before unfit thin = refuseIndexAll top3 order (length xs) (length ys ∷ length zs ∷ length before ∷ []) unfit thin
+number3 xs ys zs order before unfit thin = firstOf (indexTests top3 order (length xs) (length ys ∷ length zs ∷ length before ∷ []) unfit thin)
 
 module _ (xs ys : List Float) (order : ℕ) (before : List ℕ) where
   pub refused2 : (n r : ℕ) → r ≡ suc n → number2 xs ys order before (someUnfit (xs ∷ ys ∷ [])) (someThin (xs ∷ ys ∷ [])) ≡ suc n

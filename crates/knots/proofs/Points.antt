@@ -5,7 +5,7 @@ use native.Mathlib.Omega.{arith}
 use mathlib.Core.List.{List, [], _∷_}
 use lib.ListN.{length, getD}
 use lib.Ieee.{Float, nan}
-use Rattle.rules.specs.Refusals.{nought, refuseCell}
+use Rattle.rules.specs.Refusals.{firstOf, nought, cellTests}
 use Rattle.rules.specs.Axis.{madeUp, lowOf, highOf, cellOn}
 use Rattle.rules.specs.Knots.{knot}
 use Rattle.rules.specs.declared.Axis.{Axis}
@@ -22,7 +22,7 @@ module _ (xs : List Float) (n order : ℕ) (a : Axis) (over : Over xs n order a)
   inside : i < length xs
   inside = let e = over .all in omega arith
 
-  pub point-accepted : refuseCell (madeUp a) (lowOf a) (highOf a) (getD xs i nan) ≡ 0
+  pub point-accepted : firstOf (cellTests (madeUp a) (lowOf a) (highOf a) (getD xs i nan)) ≡ 0
   point-accepted =
       let e = over .all in
       rw (over .made, default xs i nan nought inside) (accepts xs order (omega arith) (over .fit) few (over .thick) i inside)

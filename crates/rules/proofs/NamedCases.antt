@@ -7,7 +7,7 @@ use lib.ListN.{length, replicate}
 use lib.Dec.{T, eqb}
 use Rattle.rules.specs.Sums.{pick, any, total, top, list}
 use Rattle.rules.specs.Grid.{cells, coords, whole, inside, edge, side, before, after, weight, line}
-use Rattle.rules.specs.Refusals.{readCoded, readCell2, readCell3, refuseEncode, refuseDecode, refuseHalving, codedBy, cell2By, cell3By, sliceBy}
+use Rattle.rules.specs.Refusals.{readCoded, readCell2, readCell3, encodeTests, decodeTests, gridTests, codedBy, cell2By, cell3By, sliceBy}
 use Rattle.rules.specs.Curve.{encode, decode, seekDigit, undo, digitTable, nextTable, plane, octantTable, space, indexOf, coordinateOf, encode2, encode3, decode2, decode3}
 use Rattle.rules.specs.Halving.{Halved, loOf, hiOf, reach, settle, cutOf, cutAt, uncut, nextAxis, unlessFlat, fill, splitsOf, turn, walk, idOf, idsOf, halving2, halve}
 
@@ -63,5 +63,5 @@ named =
     ∷ []
 
 pub named-cases : T (all named)
-unfolding pick any total top list cells coords whole inside edge side before after weight line refuseEncode refuseDecode refuseHalving codedBy cell2By cell3By sliceBy encode decode seekDigit undo digitTable nextTable plane octantTable space indexOf coordinateOf encode2 encode3 decode2 decode3 loOf hiOf reach settle cutOf cutAt nextAxis unlessFlat fill splitsOf turn walk idOf idsOf halve
+unfolding pick any total top list cells coords whole inside edge side before after weight line encodeTests decodeTests gridTests codedBy cell2By cell3By sliceBy encode decode seekDigit undo digitTable nextTable plane octantTable space indexOf coordinateOf encode2 encode3 decode2 decode3 loOf hiOf reach settle cutOf cutAt nextAxis unlessFlat fill splitsOf turn walk idOf idsOf halve
 named-cases = tt

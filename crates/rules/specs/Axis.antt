@@ -5,7 +5,7 @@ use mathlib.Core.List.{List, [], _∷_}
 use lib.IntN.{pos}
 use lib.Dec.{eqb}
 use lib.Ieee.{Float, binary64, sub, mul, div, lt, le, eq, ofInt, toBits, ofBits, isNan, toUnsigned}
-use Rattle.rules.specs.Refusals.{nought, width, refuseAxis, refuseCell, axisBy, cellBy}
+use Rattle.rules.specs.Refusals.{firstOf, nought, width, axisTests, cellTests, axisBy, cellBy}
 use Rattle.rules.specs.declared.Axis.{Axis}
 use Rattle.rules.specs.declared.Axis.the-variants.{Flat, Sloped}
 use Rattle.rules.specs.declared.AxisAnswer.{AxisAnswer}
@@ -46,7 +46,7 @@ axisOf low high order = cond (eq (width low high) nought) (Flat low high order) 
 
 unfoldable pub makeAxis : Float → Float → ℕ → AxisAnswer
 unfolding axisOf
-makeAxis low high order = axisBy (refuseAxis low high order) (axisOf low high order)
+makeAxis low high order = axisBy (firstOf (axisTests low high order)) (axisOf low high order)
 
 -- THE CELL OF A VALUE
 
@@ -87,7 +87,7 @@ cellOn (Sloped low high order factor) value = toUnsigned 64 (mul binary64 factor
 
 unfoldable pub cellOf : Axis → Float → CellAnswer
 unfolding madeUp cellOn
-cellOf a value = cellBy (refuseCell (madeUp a) (lowOf a) (highOf a) value) (cellOn a value)
+cellOf a value = cellBy (firstOf (cellTests (madeUp a) (lowOf a) (highOf a) value)) (cellOn a value)
 
 -- LOW AND HIGH OF POINTS
 

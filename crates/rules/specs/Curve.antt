@@ -4,7 +4,7 @@ use mathlib.Core.List.{List, [], _∷_}
 use lib.ListN.{getD}
 use lib.Dec.{eqb}
 use Rattle.rules.specs.Sums.{pick}
-use Rattle.rules.specs.Refusals.{top2, top3, refuseEncode, refuseDecode, codedBy, cell2By, cell3By}
+use Rattle.rules.specs.Refusals.{firstOf, top2, top3, encodeTests, decodeTests, codedBy, cell2By, cell3By}
 use Rattle.rules.specs.declared.Coded.{Coded}
 use Rattle.rules.specs.declared.Cell2.{Cell2}
 use Rattle.rules.specs.declared.Cell3.{Cell3}
@@ -121,17 +121,17 @@ unfoldable pub coordinateOf : {d : ℕ} → Machine d → ℕ → ℕ → ℕ �
 coordinateOf {d} M order index e = decode M e order 0 (λ k. level d k index)
 
 unfoldable pub encode2 : ℕ → ℕ → ℕ → Coded
-encode2 x y order = codedBy (refuseEncode top2 order (x ∷ y ∷ [])) (indexOf plane order (cell2 x y))
+encode2 x y order = codedBy (firstOf (encodeTests top2 order (x ∷ y ∷ []))) (indexOf plane order (cell2 x y))
 
 unfoldable pub encode3 : ℕ → ℕ → ℕ → ℕ → Coded
-encode3 x y z order = codedBy (refuseEncode top3 order (x ∷ y ∷ z ∷ [])) (indexOf space order (cell3 x y z))
+encode3 x y z order = codedBy (firstOf (encodeTests top3 order (x ∷ y ∷ z ∷ []))) (indexOf space order (cell3 x y z))
 
 unfoldable pub decode2 : ℕ → ℕ → Cell2
-decode2 index order = cell2By (refuseDecode 2 top2 order index) (coordinateOf plane order index 1) (coordinateOf plane order index 0)
+decode2 index order = cell2By (firstOf (decodeTests 2 top2 order index)) (coordinateOf plane order index 1) (coordinateOf plane order index 0)
 
 unfoldable pub decode3 : ℕ → ℕ → Cell3
 decode3 index order =
-    cell3By (refuseDecode 3 top3 order index) (coordinateOf space order index 2) (coordinateOf space order index 1) (coordinateOf space order index 0)
+    cell3By (firstOf (decodeTests 3 top3 order index)) (coordinateOf space order index 2) (coordinateOf space order index 1) (coordinateOf space order index 0)
 
 -- the order of a call that names none
 abbrev pub defaultOrder : ℕ

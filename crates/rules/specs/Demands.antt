@@ -1,14 +1,13 @@
 -- The demands, as statements. Assumes nothing.
 use Prim.Native.Nat.{ℕ, zero, suc, _+_, _*_, _^_, _≤_, _<_}
 use mathlib.Core.Path.{_≡_}
-use mathlib.Core.Bool.{Bool, true, false}
+use mathlib.Core.Bool.{true, false}
 use mathlib.Core.List.{List, [], _∷_}
-use lib.ListN.{getD, length}
+use lib.ListN.{getD}
 use lib.Dec.{eqb}
-use lib.Ieee.{Float}
-use Rattle.rules.specs.Sums.{any, total, sumWhere}
+use Rattle.rules.specs.Sums.{total, sumWhere}
 use Rattle.rules.specs.Grid.{cells, allWeight, heaviestLine}
-use Rattle.rules.specs.Refusals.{top2, orderOver, coordinateOver, indexOver, noPoints, lengthsOff, gridLengthsOff, valueUnfit, axisThin, reversed, outside, sidesUnfit, depthOver, weightOver}
+use Rattle.rules.specs.Refusals.{Test, top2, top3}
 use Rattle.rules.specs.Curve.{encode2, encode3, decode2, decode3}
 use Rattle.rules.specs.Halving.{Halving, halving2, halving3, refusalOf, halve}
 use Rattle.rules.specs.declared.Coded.the-variants.{Index}
@@ -18,14 +17,6 @@ use Rattle.rules.specs.declared.Halving2.{Halving2}
 use Rattle.rules.specs.declared.Halving3.{Halving3}
 
 -- DEMAND 1: a refusal is given exactly when 01 says so
-
--- a test and its number
-pub record Test : Type 0 where
-  pub passes : Bool
-  pub number : ℕ
-
-abbrev pub test : Bool → ℕ → Test
-test b n = record { passes = b; number = n }
 
 -- of tests in order: test i is the first that passes, and none passes
 abbrev pub FirstIs : List Test → ℕ → Type 0
@@ -51,54 +42,26 @@ pub record Exactly (tests : List Test) (number : ℕ) : Type 0 where
   pub refused : 0 < number → (i : ℕ) × FirstIs tests i × (number ≡ numberAt tests i)
   pub answered : number ≡ 0 → NonePasses tests
 
--- the order of tests of each call
-abbrev pub encodeTests : ℕ → ℕ → List ℕ → List Test
-encodeTests most order xs = test (orderOver most order) 1 ∷ test (coordinateOver order xs) 2 ∷ []
-
-abbrev pub decodeTests : ℕ → ℕ → ℕ → ℕ → List Test
-decodeTests d most order index = test (orderOver most order) 1 ∷ test (indexOver d order index) 3 ∷ []
-
-abbrev pub axisTests : Float → Float → ℕ → List Test
-axisTests low high order =
-    test (orderOver top2 order) 1
-    ∷ test (any valueUnfit (low ∷ high ∷ [])) 6
-    ∷ test (reversed low high) 8
-    ∷ test (axisThin low high) 7 ∷ []
-
-abbrev pub cellTests : Bool → Float → Float → Float → List Test
-cellTests madeUp low high value = test madeUp 8 ∷ test (valueUnfit value) 6 ∷ test (outside low high value) 8 ∷ []
-
-abbrev pub indexTests : ℕ → ℕ → ℕ → List ℕ → Bool → Bool → List Test
-indexTests most order n lengths unfit thin =
-    test (orderOver most order) 1 ∷ test (noPoints n) 4 ∷ test (lengthsOff n lengths) 5 ∷ test unfit 6 ∷ test thin 7 ∷ []
-
-abbrev pub halvingTests : Halving → List ℕ → List ℕ → List ℕ → List Test
-halvingTests h ws splits ids =
-    test (sidesUnfit (h .sides)) 9
-    ∷ test (depthOver (h .depth)) 10
-    ∷ test (gridLengthsOff (h .sides) (h .depth) (length ws) (length ids) (length splits)) 5
-    ∷ test (weightOver ws) 11 ∷ []
-
 -- DEMAND 2: decode after encode gives the cell, encode after decode the index
 
 abbrev pub DecodeEncode2 : Type 0
 DecodeEncode2 =
-    (x y order : ℕ) → order ≤ 30 → x < 2 ^ order → y < 2 ^ order
+    (x y order : ℕ) → order ≤ top2 → x < 2 ^ order → y < 2 ^ order
     → (i : ℕ) × (encode2 x y order ≡ Index i) × (decode2 i order ≡ flat.At x y)
 
 abbrev pub EncodeDecode2 : Type 0
 EncodeDecode2 =
-    (i order : ℕ) → order ≤ 30 → i < 4 ^ order
+    (i order : ℕ) → order ≤ top2 → i < 4 ^ order
     → (x : ℕ) × (y : ℕ) × (decode2 i order ≡ flat.At x y) × (encode2 x y order ≡ Index i)
 
 abbrev pub DecodeEncode3 : Type 0
 DecodeEncode3 =
-    (x y z order : ℕ) → order ≤ 21 → x < 2 ^ order → y < 2 ^ order → z < 2 ^ order
+    (x y z order : ℕ) → order ≤ top3 → x < 2 ^ order → y < 2 ^ order → z < 2 ^ order
     → (i : ℕ) × (encode3 x y z order ≡ Index i) × (decode3 i order ≡ solid.At x y z)
 
 abbrev pub EncodeDecode3 : Type 0
 EncodeDecode3 =
-    (i order : ℕ) → order ≤ 21 → i < 8 ^ order
+    (i order : ℕ) → order ≤ top3 → i < 8 ^ order
     → (x : ℕ) × (y : ℕ) × (z : ℕ) × (decode3 i order ≡ solid.At x y z) × (encode3 x y z order ≡ Index i)
 
 -- DEMAND 3

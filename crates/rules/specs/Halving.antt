@@ -8,7 +8,7 @@ use lib.IntN.{pos}
 use lib.Ieee.{Float, binary64, ofBits, ofInt, div, mul, sub, add, toUnsigned}
 use Rattle.rules.specs.Sums.{pick, total, list}
 use Rattle.rules.specs.Grid.{Block, cells, coords, on, whole, edge, side, before, after, weight, line}
-use Rattle.rules.specs.Refusals.{refuseHalving, sliceBy}
+use Rattle.rules.specs.Refusals.{Test, firstOf, gridTests, sliceBy}
 use Rattle.rules.specs.declared.Halving2.{Halving2}
 use Rattle.rules.specs.declared.Halving3.{Halving3}
 
@@ -148,9 +148,12 @@ pub record Halved : Type 0 where
   pub splits : List ℕ
   pub ids : List ℕ
 
--- 01's number for weights, splits and ids that are lent
+-- the tests of weights, splits and ids that are lent, and 01's number for them
+abbrev pub halvingTests : Halving → List ℕ → List ℕ → List ℕ → List Test
+halvingTests h ws splits ids = gridTests (h .sides) (h .depth) ws (length ids) (length splits)
+
 abbrev pub refusalOf : Halving → List ℕ → List ℕ → List ℕ → ℕ
-refusalOf h ws splits ids = refuseHalving (h .sides) (h .depth) ws (length ids) (length splits)
+refusalOf h ws splits ids = firstOf (halvingTests h ws splits ids)
 
 unfoldable pub halve : Halving → List ℕ → List ℕ → List ℕ → Halved
 halve h ws splits ids =

@@ -5,7 +5,7 @@ use mathlib.Core.List.{List, [], _∷_}
 use lib.ListN.{getD, length}
 use lib.Ieee.{Float}
 use Rattle.rules.specs.Sums.{any, list}
-use Rattle.rules.specs.Refusals.{top2, top3, nought, valueUnfit, axisThin, refuseIndexAll, sliceBy}
+use Rattle.rules.specs.Refusals.{Test, firstOf, top2, top3, nought, valueUnfit, axisThin, indexTests, sliceBy}
 use Rattle.rules.specs.Curve.{plane, space, cell2, cell3, indexOf}
 use Rattle.rules.specs.Axis.{axisOf, cellOn, extentOf}
 use Rattle.rules.specs.declared.Axis.{Axis}
@@ -37,16 +37,24 @@ abbrev pub filedBy : ℕ → List ℕ → List ℕ → Filed
 filedBy n written before = record { number = n; indices = sliceBy n written before }
 
 -- of the coordinates, the order, and what the index slice holds
+abbrev pub index2Tests : List Float → List Float → ℕ → List ℕ → List Test
+index2Tests xs ys order before =
+    indexTests top2 order (length xs) (length ys ∷ length before ∷ []) (someUnfit (xs ∷ ys ∷ [])) (someThin (xs ∷ ys ∷ []))
+
 unfoldable pub indexAll2 : List Float → List Float → ℕ → List ℕ → Filed
 indexAll2 xs ys order before =
     filedBy
-    (refuseIndexAll top2 order (length xs) (length ys ∷ length before ∷ []) (someUnfit (xs ∷ ys ∷ [])) (someThin (xs ∷ ys ∷ [])))
+    (firstOf (index2Tests xs ys order before))
     (list (λ i. indexOf plane order (cell2 (knot xs order i) (knot ys order i))) (length xs))
     before
+
+abbrev pub index3Tests : List Float → List Float → List Float → ℕ → List ℕ → List Test
+index3Tests xs ys zs order before =
+    indexTests top3 order (length xs) (length ys ∷ length zs ∷ length before ∷ []) (someUnfit (xs ∷ ys ∷ zs ∷ [])) (someThin (xs ∷ ys ∷ zs ∷ []))
 
 unfoldable pub indexAll3 : List Float → List Float → List Float → ℕ → List ℕ → Filed
 indexAll3 xs ys zs order before =
     filedBy
-    (refuseIndexAll top3 order (length xs) (length ys ∷ length zs ∷ length before ∷ []) (someUnfit (xs ∷ ys ∷ zs ∷ [])) (someThin (xs ∷ ys ∷ zs ∷ [])))
+    (firstOf (index3Tests xs ys zs order before))
     (list (λ i. indexOf space order (cell3 (knot xs order i) (knot ys order i) (knot zs order i))) (length xs))
     before

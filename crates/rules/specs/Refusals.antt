@@ -1,4 +1,5 @@
--- Numbers of refusal: the test of each number, the order of tests of each call, and the number and values that each answer stands for.
+-- Numbers of refusal: the limits, the test of each number, the order of tests of each call, and the number and values that each answer stands
+-- for.
 -- Assumes nothing.
 use Prim.Native.Nat.{ℕ, zero, suc, _-_, _*_, _^_}
 use mathlib.Core.Bool.{Bool, true, false, not, _&&_, _||_}
@@ -22,7 +23,7 @@ use Rattle.rules.specs.declared.AxisAnswer.the-variants as made
 use Rattle.rules.specs.declared.CellAnswer.{CellAnswer}
 use Rattle.rules.specs.declared.CellAnswer.the-variants as found
 
--- THE TESTS
+-- THE LIMITS
 
 -- the highest order in 2D and of an axis, and in 3D
 abbrev pub top2 : ℕ
@@ -30,6 +31,21 @@ top2 = 30
 
 abbrev pub top3 : ℕ
 top3 = 21
+
+-- the longest side of a grid, the most cells, the most levels of a halving, the heaviest weight of a cell
+abbrev pub topSide : ℕ
+topSide = 1024
+
+abbrev pub topCells : ℕ
+topCells = 65536
+
+abbrev pub topDepth : ℕ
+topDepth = 12
+
+abbrev pub topWeight : ℕ
+topWeight = 16777215
+
+-- THE TESTS
 
 -- 1
 abbrev pub orderOver : ℕ → ℕ → Bool
@@ -80,50 +96,67 @@ outside low high value = lt value low || lt high value
 
 -- 9
 abbrev pub sideUnfit : ℕ → Bool
-sideUnfit s = eqb s 0 || ltb 1024 s
+sideUnfit s = eqb s 0 || ltb topSide s
 
 abbrev pub sidesUnfit : List ℕ → Bool
-sidesUnfit sides = any sideUnfit sides || ltb 65536 (cells sides)
+sidesUnfit sides = any sideUnfit sides || ltb topCells (cells sides)
 
 -- 10
 abbrev pub depthOver : ℕ → Bool
-depthOver k = ltb 12 k
+depthOver k = ltb topDepth k
 
 -- 11
 abbrev pub weightOver : List ℕ → Bool
-weightOver ws = any (ltb 16777215) ws
+weightOver ws = any (ltb topWeight) ws
 
--- THE ORDER OF TESTS: the number of the first test that passes, 0 where none does
+-- THE ORDER OF TESTS of each call, each written once, as a list
 
+-- a test and its number
+pub record Test : Type 0 where
+  pub passes : Bool
+  pub number : ℕ
+
+abbrev pub test : Bool → ℕ → Test
+test b n = record { passes = b; number = n }
+
+-- the number of the first test that passes, 0 where none does
 abbrev pub refuse : Bool → ℕ → ℕ → ℕ
 refuse true n later = n
 refuse false n later = later
 
-unfoldable pub refuseEncode : ℕ → ℕ → List ℕ → ℕ
-refuseEncode most order xs = refuse (orderOver most order) 1 (refuse (coordinateOver order xs) 2 0)
+abbrev pub firstOf : List Test → ℕ
+firstOf [] = 0
+firstOf (t ∷ ts) = refuse (t .passes) (t .number) (firstOf ts)
 
-unfoldable pub refuseDecode : ℕ → ℕ → ℕ → ℕ → ℕ
-refuseDecode d most order index = refuse (orderOver most order) 1 (refuse (indexOver d order index) 3 0)
+unfoldable pub encodeTests : ℕ → ℕ → List ℕ → List Test
+encodeTests most order xs = test (orderOver most order) 1 ∷ test (coordinateOver order xs) 2 ∷ []
 
-unfoldable pub refuseAxis : Float → Float → ℕ → ℕ
-refuseAxis low high order =
-    refuse (orderOver top2 order) 1
-    (refuse (any valueUnfit (low ∷ high ∷ [])) 6 (refuse (reversed low high) 8 (refuse (axisThin low high) 7 0)))
+unfoldable pub decodeTests : ℕ → ℕ → ℕ → ℕ → List Test
+decodeTests d most order index = test (orderOver most order) 1 ∷ test (indexOver d order index) 3 ∷ []
+
+unfoldable pub axisTests : Float → Float → ℕ → List Test
+axisTests low high order =
+    test (orderOver top2 order) 1
+    ∷ test (any valueUnfit (low ∷ high ∷ [])) 6
+    ∷ test (reversed low high) 8
+    ∷ test (axisThin low high) 7 ∷ []
 
 -- of a value on an axis from low to high: madeUp says that making the axis anew is refused or gives other bits
-unfoldable pub refuseCell : Bool → Float → Float → Float → ℕ
-refuseCell madeUp low high value = refuse madeUp 8 (refuse (valueUnfit value) 6 (refuse (outside low high value) 8 0))
+unfoldable pub cellTests : Bool → Float → Float → Float → List Test
+cellTests madeUp low high value = test madeUp 8 ∷ test (valueUnfit value) 6 ∷ test (outside low high value) 8 ∷ []
 
 -- of n points: the lengths of the other coordinate slices and of the index slice, all coordinates, and whether an axis is thin
-unfoldable pub refuseIndexAll : ℕ → ℕ → ℕ → List ℕ → Bool → Bool → ℕ
-refuseIndexAll most order n lengths unfit thin =
-    refuse (orderOver most order) 1 (refuse (noPoints n) 4 (refuse (lengthsOff n lengths) 5 (refuse unfit 6 (refuse thin 7 0))))
+unfoldable pub indexTests : ℕ → ℕ → ℕ → List ℕ → Bool → Bool → List Test
+indexTests most order n lengths unfit thin =
+    test (orderOver most order) 1 ∷ test (noPoints n) 4 ∷ test (lengthsOff n lengths) 5 ∷ test unfit 6 ∷ test thin 7 ∷ []
 
 -- of a grid with these sides, k levels, its weights, and the lengths of ids and splits
-unfoldable pub refuseHalving : List ℕ → ℕ → List ℕ → ℕ → ℕ → ℕ
-refuseHalving sides k ws ids splits =
-    refuse (sidesUnfit sides) 9
-    (refuse (depthOver k) 10 (refuse (gridLengthsOff sides k (length ws) ids splits) 5 (refuse (weightOver ws) 11 0)))
+unfoldable pub gridTests : List ℕ → ℕ → List ℕ → ℕ → ℕ → List Test
+gridTests sides k ws ids splits =
+    test (sidesUnfit sides) 9
+    ∷ test (depthOver k) 10
+    ∷ test (gridLengthsOff sides k (length ws) ids splits) 5
+    ∷ test (weightOver ws) 11 ∷ []
 
 -- THE ANSWERS: which one a number and a value make
 

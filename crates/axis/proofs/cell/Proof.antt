@@ -3,7 +3,7 @@ use mathlib.Core.Path.{_≡_, sym, ap, _∙_}
 use mathlib.Core.Bool.{false}
 use lib.Ieee.{Float, lt}
 use borrow.Author.Needs.{needs}
-use Rattle.rules.specs.Refusals.{valueUnfit, refuseCell, cellBy}
+use Rattle.rules.specs.Refusals.{firstOf, valueUnfit, cellTests, cellBy}
 use Rattle.rules.specs.Axis.{madeUp, lowOf, highOf, cellOf}
 use Rattle.rules.specs.declared.CellAnswer.the-variants as found
 use Rattle.axis_laws.proofs.Passed.{inside-answered}
@@ -14,7 +14,7 @@ made-up-requires : tie.Need-made-up-requires
 made-up-requires c κs = search needs
 
 returns : tie.Need-returns
-unfolding cellOf cellBy refuseCell
+unfolding cellOf cellBy cellTests
 returns c = simp (sym (c .before .made-up .ensures) ∙ c .if1 .taken)
 
 unfit-requires : tie.Need-unfit-requires
@@ -24,7 +24,7 @@ made : (c : tie.Else1) → madeUp (c .before .before .args .axis) ≡ false
 made c = sym (c .before .made-up .ensures) ∙ c .if1 .left
 
 returns-2 : tie.Need-returns-2
-unfolding cellOf cellBy refuseCell
+unfolding cellOf cellBy cellTests
 returns-2 c = simp (made (c .before .before), sym (c .before .unfit .ensures) ∙ c .if2 .taken)
 
 low-of-requires : tie.Need-low-of-requires
@@ -34,7 +34,7 @@ fit : (c : tie.Else2) → valueUnfit (c .before .before .before .before .args .v
 fit c = sym (c .before .unfit .ensures) ∙ c .if2 .left
 
 returns-3 : tie.Need-returns-3
-unfolding cellOf cellBy refuseCell
+unfolding cellOf cellBy cellTests
 returns-3 c =
     let second = c .before .before in
     simp (made (second .before .before), fit second, ap (lt _) (sym (c .before .low-of .ensures)) ∙ c .if3 .taken)
@@ -46,7 +46,7 @@ not-below : (c : tie.Else3) → let a = c .before .before .before .before .befor
 not-below c = ap (lt _) (sym (c .before .low-of .ensures)) ∙ c .if3 .left
 
 returns-4 : tie.Need-returns-4
-unfolding cellOf cellBy refuseCell
+unfolding cellOf cellBy cellTests
 returns-4 c =
     let third = c .before .before in
     let second = third .before .before in
@@ -55,7 +55,7 @@ returns-4 c =
 
 -- no test refuses
 accepted : (c : tie.Else4) → let a = c .before .before .before .before .before .before .before .before .args in
-    refuseCell (madeUp (a .axis)) (lowOf (a .axis)) (highOf (a .axis)) (a .value) ≡ 0
+    firstOf (cellTests (madeUp (a .axis)) (lowOf (a .axis)) (highOf (a .axis)) (a .value)) ≡ 0
 accepted c =
     let third = c .before .before in
     let second = third .before .before in

@@ -3,7 +3,7 @@ use mathlib.Core.Path.{_≡_, sym, ap, _∙_, subst}
 use lib.Dec.{T}
 use lib.Ieee.{binary64, fits}
 use borrow.Author.Needs.{needs}
-use Rattle.rules.specs.Refusals.{refuseCell}
+use Rattle.rules.specs.Refusals.{firstOf, cellTests}
 use Rattle.rules.specs.Axis.{madeUp, lowOf, highOf, cellOn}
 use Rattle.rules.specs.declared.Axis.{Axis}
 use Rattle.axis_laws.proofs.ProductBelow.{ready-lower, ready-upper}
@@ -21,7 +21,7 @@ truncating-f64-to-u64-requires : tie.Need-truncating-f64-to-u64-requires
 truncating-f64-to-u64-requires c κs =
     let start = c .before .before .before in
     let f64 : T (fits binary64 _) = subst T (sym (c .known-told .given .1 .1 .1 .0 .1)) tt in
-    let accepted = subst (λ (a : Axis). refuseCell (madeUp a) (lowOf a) (highOf a) (start .args .value) ≡ 0) (c .before .axis .given .1) (start .pre) in
+    let accepted = subst (λ (a : Axis). firstOf (cellTests (madeUp a) (lowOf a) (highOf a) (start .args .value)) ≡ 0) (c .before .axis .given .1) (start .pre) in
     let fine = accepted-ready _ _ _ _ _ f64 accepted in
     (ready-lower _ _ fine, ready-upper _ _ (order-few _ _ _ _ _ f64 accepted) fine)
 

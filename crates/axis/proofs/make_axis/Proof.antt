@@ -5,7 +5,7 @@ use lib.Ieee.{Float, eq, ofBits}
 use borrow.Author.Needs.{needs}
 use borrow.Author.Tests.{lt-ltb, le-ltb}
 use Rattle.rules.specs.Sums.{any}
-use Rattle.rules.specs.Refusals.{nought, width, valueUnfit, refuseAxis, axisBy}
+use Rattle.rules.specs.Refusals.{firstOf, nought, width, valueUnfit, axisTests, axisBy}
 use Rattle.rules.specs.Axis.{makeAxis, axisOf}
 use Rattle.rules.specs.declared.Axis.the-variants.{Sloped}
 use Rattle.rules.specs.declared.AxisAnswer.the-variants as made
@@ -13,14 +13,14 @@ use Rattle.axis.proofs.make_axis.Statement.{statement}
 use Rattle.axis.proofs.make_axis.Tie as tie
 
 returns : tie.Need-returns
-unfolding makeAxis axisBy refuseAxis
+unfolding makeAxis axisBy axisTests
 returns c = simp (lt-ltb _ _ (c .if1 .taken))
 
 unfit-requires : tie.Need-unfit-requires
 unfit-requires c κs = search needs
 
 returns-2 : tie.Need-returns-2
-unfolding makeAxis axisBy refuseAxis any
+unfolding makeAxis axisBy axisTests any
 returns-2 c = simp (le-ltb _ _ (c .before .before .if1 .left), sym (c .before .unfit .ensures) ∙ c .if2 .taken)
 
 unfit-requires-2 : tie.Need-unfit-requires-2
@@ -33,13 +33,13 @@ high-fit : (c : tie.Else3) → valueUnfit (c .before .before .before .before .be
 high-fit c = sym (c .before .unfit2 .ensures) ∙ c .if3 .left
 
 returns-3 : tie.Need-returns-3
-unfolding makeAxis axisBy refuseAxis any
+unfolding makeAxis axisBy axisTests any
 returns-3 c =
     let second = c .before .before in
     simp (le-ltb _ _ (second .before .before .if1 .left), low-fit second, sym (c .before .unfit2 .ensures) ∙ c .if3 .taken)
 
 returns-4 : tie.Need-returns-4
-unfolding makeAxis axisBy refuseAxis any
+unfolding makeAxis axisBy axisTests any
 returns-4 c =
     let second = c .before .before .before in
     simp (le-ltb _ _ (second .before .before .if1 .left), low-fit second, high-fit (c .before), c .if4 .taken)
@@ -48,7 +48,7 @@ thin-requires : tie.Need-thin-requires
 thin-requires c κs = search needs
 
 returns-5 : tie.Need-returns-5
-unfolding makeAxis axisBy refuseAxis any
+unfolding makeAxis axisBy axisTests any
 returns-5 c =
     let third = c .before .before .before in
     let second = third .before .before in
@@ -56,8 +56,8 @@ returns-5 c =
 
 -- no test refuses
 passed : (c : tie.Else5)
-    → let a = c .before .before .before .before .before .before .before .before .args in refuseAxis (a .low) (a .high) (a .order) ≡ 0
-unfolding refuseAxis any
+    → let a = c .before .before .before .before .before .before .before .before .args in firstOf (axisTests (a .low) (a .high) (a .order)) ≡ 0
+unfolding axisTests any
 passed c =
     let third = c .before .before .before in
     let second = third .before .before in

@@ -10,7 +10,7 @@ use borrow.Author.Tests.{lt-ltb, le-ltb, eq-eqb, ne-eqb}
 use lib.Dec.{ltb, eqb}
 use lib.ListN.{length}
 use Rattle.rules.specs.Sums.{any}
-use Rattle.rules.specs.Refusals.{valueUnfit, refuse, refuseIndexAll}
+use Rattle.rules.specs.Refusals.{valueUnfit, refuse, indexTests}
 use Rattle.rules.specs.Knots.{someUnfit, someThin}
 use Rattle.knots.proofs.Axes.{is-thin, thin-number, over}
 use Rattle.knots.proofs.Filed.{number3, refused3, answered3}
@@ -33,7 +33,7 @@ abbrev y-place : tie.After-z-answer → tie.After-y-answer
 y-place c = c .before .before .before .before
 
 returns : tie.Need-returns
-unfolding refuseIndexAll
+unfolding indexTests
 returns c = refused3 _ _ _ _ _ 0 _ refl (simp (lt-ltb _ _ (c .if1 .taken)))
 
 few : (c : tie.Else1) → ltb 21 (c .before .before .before .before .before .args .order) ≡ false
@@ -44,7 +44,7 @@ axis-few : (c : tie.Else1) → c .before .before .before .before .before .args .
 axis-few c = let h = c .if1 .left in omega arith
 
 returns-2 : tie.Need-returns-2
-unfolding refuseIndexAll
+unfolding indexTests
 returns-2 c = refused3 _ _ _ _ _ 3 _ refl (simp (few (c .before), eq-eqb _ _ (c .if2 .taken)))
 
 some : (c : tie.Else2) → eqb (length (c .before .before .before .before .before .before .args .xs .now)) 0 ≡ false
@@ -54,17 +54,17 @@ points : (c : tie.Else2) → 0 < length (c .before .before .before .before .befo
 points c = let n = c .if2 .left in search needs
 
 returns-3 : tie.Need-returns-3
-unfolding refuseIndexAll any
+unfolding indexTests any
 returns-3 c = refused3 _ _ _ _ _ 4 _ refl (simp (few (c .before .before), some (c .before), ne-eqb _ _ (c .if3 .taken)))
 
 returns-4 : tie.Need-returns-4
-unfolding refuseIndexAll any
+unfolding indexTests any
 returns-4 c =
     let third = c .before in
     refused3 _ _ _ _ _ 4 _ refl (simp (few (third .before .before), some (third .before), eq-eqb _ _ (third .if3 .left), ne-eqb _ _ (c .if4 .taken)))
 
 returns-5 : tie.Need-returns-5
-unfolding refuseIndexAll any
+unfolding indexTests any
 returns-5 c =
     let fourth = c .before in
     let third = fourth .before in
@@ -77,7 +77,7 @@ any-unfit-requires c κs = search needs
 lengths-fit : (c : tie.Else5) (unfit thin : Bool)
     → let a = after-lengths c .args in
     number3 (a .xs .now) (a .ys .now) (a .zs .now) (a .order) (a .indices .now) unfit thin ≡ refuse unfit 6 (refuse thin 7 0)
-unfolding refuseIndexAll any
+unfolding indexTests any
 lengths-fit c unfit thin =
     let fourth = c .before in
     let third = fourth .before in

@@ -6,14 +6,9 @@ use mathlib.Core.List.{List, [], _∷_}
 use native.Mathlib.Omega.{arith}
 use lib.Dec.{T, ltb, ltb→lt}
 use lib.Ieee.Fits.{and-l, and-r}
-use Rattle.rules.specs.Refusals.{Reading, refuse, sliceBy}
-use Rattle.rules.specs.Demands.{Test, test, FirstIs, NonePasses, numberAt, Exactly}
+use Rattle.rules.specs.Refusals.{Reading, Test, test, refuse, firstOf, sliceBy}
+use Rattle.rules.specs.Demands.{FirstIs, NonePasses, numberAt, Exactly}
 use Rattle.laws.proofs.Readings.{valueBy}
-
--- the number of the first test that passes
-abbrev pub firstOf : List Test → ℕ
-firstOf [] = 0
-firstOf (t ∷ ts) = refuse (t .passes) (t .number) (firstOf ts)
 
 -- no test has the number 0
 abbrev pub numbered : List Test → Bool
@@ -45,6 +40,10 @@ exactly [] n = record { first = λ i f. absurd f; none = λ _. refl; refused = �
 exactly (t ∷ ts) n =
     more (t .passes) (t .number) ts (ltb→lt 0 (t .number) (and-l (ltb 0 (t .number)) (numbered ts) n))
     (exactly ts (and-r (ltb 0 (t .number)) (numbered ts) n))
+
+-- what the tests say once they are passed
+pub none-passes : (ts : List Test) → T (numbered ts) → firstOf ts ≡ 0 → NonePasses ts
+none-passes ts n = exactly ts n .answered
 
 -- the same of an answer, which reads zeros after a refusal
 pub record Refuses {A : Type 0} (ts : List Test) (r : Reading A) (zeros : A) : Type 0 where
