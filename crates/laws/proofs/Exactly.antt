@@ -2,7 +2,7 @@
 use Prim.Native.Nat.{ℕ, zero, suc, _≤_, _<_}
 use mathlib.Core.Path.{_≡_, refl}
 use mathlib.Core.Bool.{Bool, true, false, _&&_, true≢false, false≢true}
-use mathlib.Core.List.{List, [], _∷_}
+use mathlib.Core.List.{List, [], _∷_, _++_}
 use native.Mathlib.Omega.{arith}
 use lib.Dec.{T, ltb, ltb→lt}
 use lib.Ieee.Fits.{and-l, and-r}
@@ -44,6 +44,20 @@ exactly (t ∷ ts) n =
 -- what the tests say once they are passed
 pub none-passes : (ts : List Test) → T (numbered ts) → firstOf ts ≡ 0 → NonePasses ts
 none-passes ts n = exactly ts n .answered
+
+-- of tests behind others: those count where none of the others passes
+pub first-earlier : (ts us : List Test) (n : ℕ) → firstOf ts ≡ suc n → firstOf (ts ++ us) ≡ suc n
+first-earlier [] us n e = absurd (omega arith)
+first-earlier (t ∷ ts) us n e = go (t .passes) (first-earlier ts us n) e
+  where
+    go : (b : Bool) → (firstOf ts ≡ suc n → firstOf (ts ++ us) ≡ suc n) → refuse b (t .number) (firstOf ts) ≡ suc n
+        → refuse b (t .number) (firstOf (ts ++ us)) ≡ suc n
+    go true f e = e
+    go false f e = f e
+
+pub first-later : (ts us : List Test) → NonePasses ts → firstOf (ts ++ us) ≡ firstOf us
+first-later [] us p = refl
+first-later (t ∷ ts) us p = rw (p .0) (first-later ts us (p .1))
 
 -- the same of an answer, which reads zeros after a refusal
 pub record Refuses {A : Type 0} (ts : List Test) (r : Reading A) (zeros : A) : Type 0 where

@@ -1,22 +1,15 @@
 // The C interface, built by `rt staticlib skarvolm`; include/skarvolm.h declares it.
 //
-// Each function calls the proved function of the same name and takes its answer apart: the number of refusal is returned,
-// and each value goes behind a pointer, 0 after a refusal. A slice is a pointer and a length. A contract says that number
-// and values are those that the answer stands for (`readCoded` and its like), so a caller in C may rely on all that holds of
-// the answer; that no second outcome fits is proved in proofs/Once.antt.
+// Each function hands its call on: values behind pointers are those of `curve_out` and `axis_out`, 0 after a refusal; a slice is a pointer and a
+// length, and is as it was after a refusal. Number and values are those that the rules' answers stand for (`readCoded` and its like). No second
+// outcome fits (proofs/Once.antt, `skarvolm-encode-2d-only` and so on); the demands hold of every outcome that fits (crate demands_met).
 ghost use mathlib.Core.Path.{_≡_};
 ghost use lib.ListN.{getD};
 ghost use Rattle.rules.specs.Refusals.{readCoded, readCell2, readCell3, readCell};
 ghost use Rattle.rules.specs.Curve.{depositOf, encode2, encode3, decode2, decode3};
-ghost use Rattle.rules.specs.Axis.{makeAxis};
 ghost use Rattle.rules.specs.Knots.{indexAll2, indexAll3};
-ghost use Rattle.rules.specs.Halving.{halving2, halving3, halve};
-ghost use Rattle.skarvolm.specs.Cells.{cellFrom};
-use rules::AxisAnswer;
-use rules::Cell2;
-use rules::Cell3;
-use rules::CellAnswer;
-use rules::Coded;
+ghost use Rattle.axis_out.specs.Cells.{cellBetween};
+ghost use Rattle.skarvolm.specs.Calls.{rcb2, rcb3};
 use rules::Halving2;
 use rules::Halving3;
 
@@ -34,17 +27,7 @@ pub extern "C" fn skarvolm_encode_2d(x: u64, y: u64, order: u32, index: &mut u64
     ensures number { λ r. ⌜ r ≡ readCoded (encode2 x y order) .number ⌝ }
     ensures value { λ _. ⌜ now (index .exit) ≡ readCoded (encode2 x y order) .value ⌝ }
 {
-    let answer = curve::encode_2d(x, y, order);
-    match answer {
-        Coded::Index(i) => {
-            *index = i;
-            0
-        }
-        Coded::Refused(number) => {
-            *index = 0;
-            number
-        }
-    }
+    curve_out::encode_2d(x, y, order, index)
 }
 
 // The index of a cell in 3D.
@@ -53,17 +36,7 @@ pub extern "C" fn skarvolm_encode_3d(x: u64, y: u64, z: u64, order: u32, index: 
     ensures number { λ r. ⌜ r ≡ readCoded (encode3 x y z order) .number ⌝ }
     ensures value { λ _. ⌜ now (index .exit) ≡ readCoded (encode3 x y z order) .value ⌝ }
 {
-    let answer = curve::encode_3d(x, y, z, order);
-    match answer {
-        Coded::Index(i) => {
-            *index = i;
-            0
-        }
-        Coded::Refused(number) => {
-            *index = 0;
-            number
-        }
-    }
+    curve_out::encode_3d(x, y, z, order, index)
 }
 
 // The cell of an index.
@@ -73,19 +46,7 @@ pub extern "C" fn skarvolm_decode_2d(index: u64, order: u32, x: &mut u64, y: &mu
     ensures x { λ _. ⌜ now (x .exit) ≡ getD (readCell2 (decode2 index order) .value) 0 0 ⌝ }
     ensures y { λ _. ⌜ now (y .exit) ≡ getD (readCell2 (decode2 index order) .value) 1 0 ⌝ }
 {
-    let answer = curve::decode_2d(index, order);
-    match answer {
-        Cell2::At(a, b) => {
-            *x = a;
-            *y = b;
-            0
-        }
-        Cell2::Refused(number) => {
-            *x = 0;
-            *y = 0;
-            number
-        }
-    }
+    curve_out::decode_2d(index, order, x, y)
 }
 
 // The cell of an index in 3D.
@@ -102,51 +63,16 @@ pub extern "C" fn skarvolm_decode_3d(
     ensures y { λ _. ⌜ now (y .exit) ≡ getD (readCell3 (decode3 index order) .value) 1 0 ⌝ }
     ensures z { λ _. ⌜ now (z .exit) ≡ getD (readCell3 (decode3 index order) .value) 2 0 ⌝ }
 {
-    let answer = curve::decode_3d(index, order);
-    match answer {
-        Cell3::At(a, b, c) => {
-            *x = a;
-            *y = b;
-            *z = c;
-            0
-        }
-        Cell3::Refused(number) => {
-            *x = 0;
-            *y = 0;
-            *z = 0;
-            number
-        }
-    }
-}
-
-// The cell of a value on the axis of low, high and order, or the refusal of either.
-fn cell_of(low: f64, high: f64, order: u32, value: f64) -> CellAnswer
-    ensures { λ r. ⌜ r ≡ cellFrom (makeAxis low high order) value ⌝ }
-{
-    let answer = axis::make_axis(low, high, order);
-    let AxisAnswer::Made(made) = answer else {
-        return CellAnswer::Refused(axis::number_of(answer));
-    };
-    axis::cell(made, value)
+    curve_out::decode_3d(index, order, x, y, z)
 }
 
 // The cell of a value: makes the axis, then the cell.
 #[no_mangle]
 pub extern "C" fn skarvolm_cell(low: f64, high: f64, order: u32, value: f64, cell: &mut u64) -> u32
-    ensures number { λ r. ⌜ r ≡ readCell (cellFrom (makeAxis low high order) value) .number ⌝ }
-    ensures value { λ _. ⌜ now (cell .exit) ≡ readCell (cellFrom (makeAxis low high order) value) .value ⌝ }
+    ensures number { λ r. ⌜ r ≡ readCell (cellBetween low high order value) .number ⌝ }
+    ensures value { λ _. ⌜ now (cell .exit) ≡ readCell (cellBetween low high order value) .value ⌝ }
 {
-    let answer = cell_of(low, high, order, value);
-    match answer {
-        CellAnswer::Cell(c) => {
-            *cell = c;
-            0
-        }
-        CellAnswer::Refused(number) => {
-            *cell = 0;
-            number
-        }
-    }
+    axis_out::cell(low, high, order, value, cell)
 }
 
 // The indices of all points.
@@ -183,9 +109,9 @@ pub extern "C" fn skarvolm_rcb_2d(
     splits: &mut [u32],
     ids: &mut [u32],
 ) -> u32
-    ensures number { λ r. ⌜ r ≡ halve (halving2 (record { width = width; height = height; depth = depth })) (now (weights .entry)) (now (splits .entry)) (now (ids .entry)) .number ⌝ }
-    ensures splits { λ _. ⌜ now (splits .exit) ≡ halve (halving2 (record { width = width; height = height; depth = depth })) (now (weights .entry)) (now (splits .entry)) (now (ids .entry)) .splits ⌝ }
-    ensures ids { λ _. ⌜ now (ids .exit) ≡ halve (halving2 (record { width = width; height = height; depth = depth })) (now (weights .entry)) (now (splits .entry)) (now (ids .entry)) .ids ⌝ }
+    ensures number { λ r. ⌜ r ≡ rcb2 width height depth (now (weights .entry)) (now (splits .entry)) (now (ids .entry)) .number ⌝ }
+    ensures splits { λ _. ⌜ now (splits .exit) ≡ rcb2 width height depth (now (weights .entry)) (now (splits .entry)) (now (ids .entry)) .splits ⌝ }
+    ensures ids { λ _. ⌜ now (ids .exit) ≡ rcb2 width height depth (now (weights .entry)) (now (splits .entry)) (now (ids .entry)) .ids ⌝ }
 {
     let halving = Halving2 {
         width,
@@ -206,9 +132,9 @@ pub extern "C" fn skarvolm_rcb_3d(
     splits: &mut [u32],
     ids: &mut [u32],
 ) -> u32
-    ensures number { λ r. ⌜ r ≡ halve (halving3 (record { width = width; height = height; layers = layers; depth = depth })) (now (weights .entry)) (now (splits .entry)) (now (ids .entry)) .number ⌝ }
-    ensures splits { λ _. ⌜ now (splits .exit) ≡ halve (halving3 (record { width = width; height = height; layers = layers; depth = depth })) (now (weights .entry)) (now (splits .entry)) (now (ids .entry)) .splits ⌝ }
-    ensures ids { λ _. ⌜ now (ids .exit) ≡ halve (halving3 (record { width = width; height = height; layers = layers; depth = depth })) (now (weights .entry)) (now (splits .entry)) (now (ids .entry)) .ids ⌝ }
+    ensures number { λ r. ⌜ r ≡ rcb3 width height layers depth (now (weights .entry)) (now (splits .entry)) (now (ids .entry)) .number ⌝ }
+    ensures splits { λ _. ⌜ now (splits .exit) ≡ rcb3 width height layers depth (now (weights .entry)) (now (splits .entry)) (now (ids .entry)) .splits ⌝ }
+    ensures ids { λ _. ⌜ now (ids .exit) ≡ rcb3 width height layers depth (now (weights .entry)) (now (splits .entry)) (now (ids .entry)) .ids ⌝ }
 {
     let halving = Halving3 {
         width,
