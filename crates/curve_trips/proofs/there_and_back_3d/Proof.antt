@@ -5,18 +5,6 @@ use Rattle.curve_laws.proofs.Trips.{there-and-back3, refusal-back3}
 use Rattle.curve_trips.proofs.there_and_back_3d.Statement.{statement}
 use Rattle.curve_trips.proofs.there_and_back_3d.Tie as tie
 
-encode-3d-requires : tie.Need-encode-3d-requires
-encode-3d-requires c κs = search needs
-
-enum-known-coded : tie.Need-enum-known-coded
-enum-known-coded c = search needs
-
-decode-3d-requires : tie.Need-decode-3d-requires
-decode-3d-requires c κs = search needs
-
-enum-known-coded-2 : tie.Need-enum-known-coded-2
-enum-known-coded-2 c = search needs
-
 returns : tie.Need-returns
 returns c =
     let told = c .before .before in
@@ -30,4 +18,4 @@ returns-2 c =
 pub there-and-back-3d-spec : {M : Type 1} → statement M
 there-and-back-3d-spec =
     tie.close
-    (tie.spec encode-3d-requires enum-known-coded decode-3d-requires enum-known-coded-2 returns returns-2)
+    (tie.spec (λ c κs. search needs) (λ c. search needs) (λ c κs. search needs) (λ c. search needs) returns returns-2)
