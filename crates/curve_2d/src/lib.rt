@@ -19,6 +19,9 @@ use rules::REFUSED_INDEX;
 use rules::REFUSED_ORDER;
 use rules::TOP_ORDER_2D;
 
+// The state in which the machine starts.
+const START: u64 = 0;
+
 // The rows' inverses, at 4 * state + digit: 4 * (next state) + quadrant.
 #[rattlefmt::skip]
 const UNDO: [u8; 16] = [
@@ -43,7 +46,7 @@ fn walk_2d(table: &[u16; 16384], zorder: u64, order: u32) -> u64
     ensures { λ r. ⌜ r ≡ encode plane order 0 (λ k. level 2 k zorder) ⌝ }
 {
     let mut left = order;
-    let mut state: u64 = 0;
+    let mut state = START;
     let mut hilbert: u64 = 0;
     while 6 < left {
         left -= 6;
@@ -106,7 +109,7 @@ fn back_2d(undo: &[u8; 16], index: u64, order: u32) -> Cell2
     ensures { λ r. ⌜ r ≡ At (coordinateOf plane order index 1) (coordinateOf plane order index 0) ⌝ }
 {
     let mut shift = 2 * order;
-    let mut state: u64 = 0;
+    let mut state = START;
     let mut x: u64 = 0;
     let mut y: u64 = 0;
     while 0 < shift {

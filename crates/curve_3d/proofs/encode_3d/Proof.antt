@@ -37,7 +37,7 @@ zorder-3d-requires c κs =
 
 walk-3d-requires : tie.Need-walk-3d-requires
 unfolding octantTable
-walk-3d-requires c κs = (refl, c .before .before .before .before .before .if1 .left)
+walk-3d-requires c κs = let tests = c .before .before in (refl, tests .before .before .before .if1 .left)
 
 returns-5 : tie.Need-returns-5
 unfolding indexOf

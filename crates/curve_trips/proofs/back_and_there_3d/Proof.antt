@@ -8,12 +8,14 @@ use Rattle.curve_trips.proofs.back_and_there_3d.Tie as tie
 returns : tie.Need-returns
 returns c =
     let told = c .before .before in
-    c .encode-3d .ensures ∙ back-and-there3 _ _ _ _ _ (sym (told .before .before .decode-3d .ensures) ∙ told .cell .given .1)
+    let cell-is = sym (told .before .before .decode-3d .ensures) ∙ told .cell .given .1 in
+    search (c .encode-3d .ensures, back-and-there3 _ _ _ _ _ cell-is)
 
 returns-2 : tie.Need-returns-2
 returns-2 c =
     let told = c .before in
-    refusal-there3 _ _ _ (sym (told .before .before .decode-3d .ensures) ∙ told .cell2 .given .1)
+    let number-is = sym (told .before .before .decode-3d .ensures) ∙ told .cell2 .given .1 in
+    search (refusal-there3 _ _ _ number-is)
 
 pub back-and-there-3d-spec : {M : Type 1} → statement M
 back-and-there-3d-spec =
