@@ -12,3 +12,5 @@ pub mod Turns
 pub mod Groups
 pub mod Spread
 pub mod Interleave
+pub mod Shifts
+pub mod DecodeTurn

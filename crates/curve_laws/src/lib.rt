@@ -7,6 +7,8 @@
 //   Demand2, Trips           the round trips of the 2D and the 3D curve: as rules' Demands states them, and on every input
 //   Refusals, Answers        what an encoder or a decoder answers, by the tests that its input passes; the number and values of each answer
 //   Turns, Groups            one turn of a loop over the levels, and of one that takes several levels at once
+//   DecodeTurn               one turn of a decoder's loop by a table of the rows' inverses (specs/Undoes)
+//   Shifts                   what the code's shifts say of a side and of an index
 //   Spread, Interleave       one turn of the deposit, and the deposits of a cell's coordinates side by side
 //
 // Parts (bits and levels of a number), All (a test of every number below n) and Or (`bitOr` is associative) serve these.

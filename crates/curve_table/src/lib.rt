@@ -1,18 +1,23 @@
 // The table of six levels of the 2D curve at once, alone in its crate, since its check is the longest.
 //
-// Entry 4096 * s + z is 4096 * (end state) + (six digits), for the state s and 12 interleaved bits z. That rule is proved once over the
-// whole table, by one computed test, and only one table keeps it (proofs/Once.antt, `table-only`).
+// Entry 4096 * s + z is 4096 * (end state) + (six digits), for the state s and 12 interleaved bits z. That rule is computed at every entry,
+// and only one table keeps it (proofs/Once.antt, `table-only`).
 //
+// A literal's check grows with the square of its length, so that each state's entries are a literal of their own, laid one behind the other.
 // A constant of this size is refused by today's compiler, so that the table is the result of a function, and is filled anew at every call:
 // a caller over many cells makes it once, and lends it.
 //
-// The slow machine is that of Célestin Marot, "Parallel tetrahedral mesh generation" (http://hdl.handle.net/2078.1/240626).
-ghost use Rattle.curve_table.specs.Ruled.{Ruled};
+// The slow machine is that of Célestin Marot, "Parallel tetrahedral mesh generation" (http://hdl.handle.net/2078.1/240626). This file is
+// written by `tools/make_table > crates/curve_table/src/lib.rt`.
+ghost use mathlib.Core.Path.{_≡_};
+ghost use Prim.Native.Nat.{_+_, _*_, _<_};
+ghost use lib.ListN.{length};
+ghost use Rattle.curve_table.specs.Ruled.{Ruled, RuledBelow, RuledIn};
 
-// The table. This file is written by `tools/make_table > crates/curve_table/src/lib.rt`.
+// The entries of state 0.
 #[rattlefmt::skip]
-pub fn table() -> [u16; 16384]
-    ensures { λ r. ⌜ Ruled r ⌝ }
+fn state_0() -> [u16; 4096]
+    ensures { λ r. ⌜ RuledIn 0 r ⌝ }
 {
     [
         0, 8195, 4097, 4098, 4100, 5, 12295, 6, 12302, 12301, 15, 8204, 4104, 9, 12299, 10,
@@ -271,6 +276,15 @@ pub fn table() -> [u16; 16384]
         2704, 10899, 6801, 6802, 6804, 2709, 14999, 2710, 15006, 15005, 2719, 10908, 6808, 2713, 15003, 2714,
         15034, 15033, 2747, 10936, 15030, 15029, 2743, 10932, 6844, 2749, 15039, 2750, 10930, 6835, 10929, 15024,
         2720, 10915, 6817, 6818, 6820, 2725, 15015, 2726, 15022, 15021, 2735, 10924, 6824, 2729, 15019, 2730,
+    ]
+}
+
+// The entries of state 1.
+#[rattlefmt::skip]
+fn state_1() -> [u16; 4096]
+    ensures { λ r. ⌜ RuledIn 1 r ⌝ }
+{
+    [
         4096, 1, 12291, 2, 8206, 4111, 8205, 12300, 4, 8199, 4101, 4102, 8, 8203, 4105, 4106,
         16, 8211, 4113, 4114, 4116, 21, 12311, 22, 12318, 12317, 31, 8220, 4120, 25, 12315, 26,
         12346, 12345, 59, 8248, 12342, 12341, 55, 8244, 4156, 61, 12351, 62, 8242, 4147, 8241, 12336,
@@ -527,6 +541,15 @@ pub fn table() -> [u16; 16384]
         10938, 6843, 10937, 15032, 2748, 10943, 6845, 6846, 10934, 6839, 10933, 15028, 15026, 15025, 2739, 10928,
         6800, 2705, 14995, 2706, 10910, 6815, 10909, 15004, 2708, 10903, 6805, 6806, 2712, 10907, 6809, 6810,
         6816, 2721, 15011, 2722, 10926, 6831, 10925, 15020, 2724, 10919, 6821, 6822, 2728, 10923, 6825, 6826,
+    ]
+}
+
+// The entries of state 2.
+#[rattlefmt::skip]
+fn state_2() -> [u16; 4096]
+    ensures { λ r. ⌜ RuledIn 2 r ⌝ }
+{
+    [
         10922, 6827, 10921, 15016, 2732, 10927, 6829, 6830, 10918, 6823, 10917, 15012, 15010, 15009, 2723, 10912,
         6832, 2737, 15027, 2738, 10942, 6847, 10941, 15036, 2740, 10935, 6837, 6838, 2744, 10939, 6841, 6842,
         10906, 6811, 10905, 15000, 2716, 10911, 6813, 6814, 10902, 6807, 10901, 14996, 14994, 14993, 2707, 10896,
@@ -783,6 +806,15 @@ pub fn table() -> [u16; 16384]
         12314, 12313, 27, 8216, 12310, 12309, 23, 8212, 4124, 29, 12319, 30, 8210, 4115, 8209, 12304,
         48, 8243, 4145, 4146, 4148, 53, 12343, 54, 12350, 12349, 63, 8252, 4152, 57, 12347, 58,
         8202, 4107, 8201, 12296, 12, 8207, 4109, 4110, 8198, 4103, 8197, 12292, 12290, 12289, 3, 8192,
+    ]
+}
+
+// The entries of state 3.
+#[rattlefmt::skip]
+fn state_3() -> [u16; 4096]
+    ensures { λ r. ⌜ RuledIn 3 r ⌝ }
+{
+    [
         15018, 15017, 2731, 10920, 15014, 15013, 2727, 10916, 6828, 2733, 15023, 2734, 10914, 6819, 10913, 15008,
         15002, 15001, 2715, 10904, 14998, 14997, 2711, 10900, 6812, 2717, 15007, 2718, 10898, 6803, 10897, 14992,
         2736, 10931, 6833, 6834, 6836, 2741, 15031, 2742, 15038, 15037, 2751, 10940, 6840, 2745, 15035, 2746,
@@ -1040,4 +1072,27 @@ pub fn table() -> [u16; 16384]
         8218, 4123, 8217, 12312, 28, 8223, 4125, 4126, 8214, 4119, 8213, 12308, 12306, 12305, 19, 8208,
         12298, 12297, 11, 8200, 12294, 12293, 7, 8196, 4108, 13, 12303, 14, 8194, 4099, 8193, 12288,
     ]
+}
+
+// Writes the entries of a state behind those of the states before it.
+fn lay(table: &mut [u16; 16384], state: usize, entries: &[u16; 4096])
+    requires { ⌜ (state < 4) × RuledIn state (now entries) ⌝ }
+    requires { ⌜ (length (now table) ≡ 16384) × RuledBelow (4096 * state) (now table) ⌝ }
+    ensures { λ _. ⌜ (length (now (table .exit)) ≡ 16384) × RuledBelow (4096 * state + 4096) (now (table .exit)) ⌝ }
+{
+    for z in 0..4096 {
+        table[4096 * state + z] = entries[z];
+    }
+}
+
+// The table: each entry is what six steps of the slow machine give.
+pub fn table() -> [u16; 16384]
+    ensures { λ r. ⌜ Ruled r ⌝ }
+{
+    let mut table = [0u16; 16384];
+    lay(&mut table, 0, &state_0());
+    lay(&mut table, 1, &state_1());
+    lay(&mut table, 2, &state_2());
+    lay(&mut table, 3, &state_3());
+    table
 }

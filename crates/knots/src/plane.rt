@@ -40,7 +40,7 @@ fn write_2d(
     let table = curve_table::table();
     let mut i = 0;
     while i < xs.len() {
-        let coded = curve::encode_2d_with(
+        let coded = curve_2d::encode_2d_with(
             &table,
             cell_on(xaxis, xs[i]),
             cell_on(yaxis, ys[i]),

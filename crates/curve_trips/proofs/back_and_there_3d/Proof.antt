@@ -5,29 +5,19 @@ use Rattle.curve_laws.proofs.Trips.{back-and-there3, refusal-there3}
 use Rattle.curve_trips.proofs.back_and_there_3d.Statement.{statement}
 use Rattle.curve_trips.proofs.back_and_there_3d.Tie as tie
 
-decode-3d-requires : tie.Need-decode-3d-requires
-decode-3d-requires c κs = search needs
-
-enum-known-cell : tie.Need-enum-known-cell
-enum-known-cell c = search needs
-
-encode-3d-requires : tie.Need-encode-3d-requires
-encode-3d-requires c κs = search needs
-
-enum-known-cell-2 : tie.Need-enum-known-cell-2
-enum-known-cell-2 c = search needs
-
 returns : tie.Need-returns
 returns c =
     let told = c .before .before in
-    c .encode-3d .ensures ∙ back-and-there3 _ _ _ _ _ (sym (told .before .before .decode-3d .ensures) ∙ told .cell .given .1)
+    let cell-is = sym (told .before .before .decode-3d .ensures) ∙ told .cell .given .1 in
+    search (c .encode-3d .ensures, back-and-there3 _ _ _ _ _ cell-is)
 
 returns-2 : tie.Need-returns-2
 returns-2 c =
     let told = c .before in
-    refusal-there3 _ _ _ (sym (told .before .before .decode-3d .ensures) ∙ told .cell2 .given .1)
+    let number-is = sym (told .before .before .decode-3d .ensures) ∙ told .cell2 .given .1 in
+    search (refusal-there3 _ _ _ number-is)
 
 pub back-and-there-3d-spec : {M : Type 1} → statement M
 back-and-there-3d-spec =
     tie.close
-    (tie.spec decode-3d-requires enum-known-cell encode-3d-requires enum-known-cell-2 returns returns-2)
+    (tie.spec (λ c κs. search needs) (λ c. search needs) (λ c κs. search needs) (λ c. search needs) returns returns-2)

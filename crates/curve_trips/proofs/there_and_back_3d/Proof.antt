@@ -5,29 +5,19 @@ use Rattle.curve_laws.proofs.Trips.{there-and-back3, refusal-back3}
 use Rattle.curve_trips.proofs.there_and_back_3d.Statement.{statement}
 use Rattle.curve_trips.proofs.there_and_back_3d.Tie as tie
 
-encode-3d-requires : tie.Need-encode-3d-requires
-encode-3d-requires c κs = search needs
-
-enum-known-coded : tie.Need-enum-known-coded
-enum-known-coded c = search needs
-
-decode-3d-requires : tie.Need-decode-3d-requires
-decode-3d-requires c κs = search needs
-
-enum-known-coded-2 : tie.Need-enum-known-coded-2
-enum-known-coded-2 c = search needs
-
 returns : tie.Need-returns
 returns c =
     let told = c .before .before in
-    c .decode-3d .ensures ∙ there-and-back3 _ _ _ _ _ (sym (told .before .before .encode-3d .ensures) ∙ told .coded .given .1)
+    let index-is = sym (told .before .before .encode-3d .ensures) ∙ told .coded .given .1 in
+    search (c .decode-3d .ensures, there-and-back3 _ _ _ _ _ index-is)
 
 returns-2 : tie.Need-returns-2
 returns-2 c =
     let told = c .before in
-    refusal-back3 _ _ _ _ _ (sym (told .before .before .encode-3d .ensures) ∙ told .coded2 .given .1)
+    let number-is = sym (told .before .before .encode-3d .ensures) ∙ told .coded2 .given .1 in
+    search (refusal-back3 _ _ _ _ _ number-is)
 
 pub there-and-back-3d-spec : {M : Type 1} → statement M
 there-and-back-3d-spec =
     tie.close
-    (tie.spec encode-3d-requires enum-known-coded decode-3d-requires enum-known-coded-2 returns returns-2)
+    (tie.spec (λ c κs. search needs) (λ c. search needs) (λ c κs. search needs) (λ c. search needs) returns returns-2)

@@ -1,6 +1,0 @@
-pub mod Shifts
-pub mod Zorder
-pub mod DecodeTurn
-pub mod OctantTurn
-pub mod GroupTurn
-pub mod Once

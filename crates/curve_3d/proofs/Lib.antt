@@ -1,0 +1,2 @@
+pub mod OctantTurn
+pub mod Once

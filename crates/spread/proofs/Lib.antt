@@ -1,0 +1,2 @@
+pub mod Zorder
+pub mod Once

@@ -1,0 +1,2 @@
+pub mod Depositing
+pub mod Interleaved
