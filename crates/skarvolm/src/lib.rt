@@ -125,7 +125,7 @@ fn cell_of(low: f64, high: f64, order: u32, value: f64) -> CellAnswer
 {
     let answer = axis::make_axis(low, high, order);
     let AxisAnswer::Made(made) = answer else {
-        return CellAnswer::Refused(axis::number_of(answer));
+        return CellAnswer::Refused(axis_make::axis_refusal(answer));
     };
     axis::cell(made, value)
 }

@@ -17,14 +17,14 @@ enum-known-answer c = search needs
 enum-told : tie.Need-enum-told
 enum-told c = search needs
 
-number-of-requires : tie.Need-number-of-requires
-number-of-requires c κs = search needs
+axis-refusal-requires : tie.Need-axis-refusal-requires
+axis-refusal-requires c κs = search needs
 
 returns : tie.Need-returns
 unfolding cellFrom
 returns c =
     let t = c .before .enum-told .given .1 in
-    rw (← c .before .before .before .make-axis .ensures, t) (ap found.Refused (c .number-of .ensures ∙ ap (λ (a : AxisAnswer). readAxis a .number) t))
+    rw (← c .before .before .before .make-axis .ensures, t) (ap found.Refused (c .axis-refusal .ensures ∙ ap (λ (a : AxisAnswer). readAxis a .number) t))
 
 cell-requires : tie.Need-cell-requires
 cell-requires c κs = search needs
@@ -40,7 +40,7 @@ cell-of-spec =
     make-axis-requires
     enum-known-answer
     enum-told
-    number-of-requires
+    axis-refusal-requires
     returns
     cell-requires
     returns-2)
