@@ -44,12 +44,9 @@ fn write_2d(
     let table = curve_table::table();
     let mut i = 0;
     while i < xs.len() {
-        let coded = curve::encode_2d_with(
-            &table,
-            cell_on(xaxis, xs[i]),
-            cell_on(yaxis, ys[i]),
-            order,
-        );
+        let x = cell_on(xaxis, xs[i]);
+        let y = cell_on(yaxis, ys[i]);
+        let coded = curve::encode_2d_with(&table, x, y, order);
         match coded {
             Coded::Index(index) => {
                 indices[i] = index;

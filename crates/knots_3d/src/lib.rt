@@ -46,12 +46,10 @@ fn write_3d(
 {
     let mut i = 0;
     while i < xs.len() {
-        let coded = curve::encode_3d(
-            cell_on(xaxis, xs[i]),
-            cell_on(yaxis, ys[i]),
-            cell_on(zaxis, zs[i]),
-            order,
-        );
+        let x = cell_on(xaxis, xs[i]);
+        let y = cell_on(yaxis, ys[i]);
+        let z = cell_on(zaxis, zs[i]);
+        let coded = curve::encode_3d(x, y, z, order);
         match coded {
             Coded::Index(index) => {
                 indices[i] = index;

@@ -28,18 +28,9 @@ Inv-loop xs ys xaxis yaxis order indices₀ table i₀ indices i = (i ≤ length
 abbrev μ-loop : tie.MeasureT-loop
 μ-loop xs ys xaxis yaxis order indices₀ table i₀ indices i = length xs - i
 
-table-requires : tie.Need-table-requires Inv-loop μ-loop
-table-requires c κs = search needs
-
 loop-holds : tie.Need-loop-holds Inv-loop μ-loop
 unfolding list
 loop-holds c = (search needs, refl)
-
-mul-cell-on : tie.Need-mul-cell-on Inv-loop μ-loop
-mul-cell-on c = search needs
-
-shared-slice-read-cell-on : tie.Need-shared-slice-read-cell-on Inv-loop μ-loop
-shared-slice-read-cell-on c = search needs
 
 -- where the call began
 abbrev start : tie.At-loop Inv-loop μ-loop → tie.Start Inv-loop μ-loop
@@ -57,23 +48,20 @@ here c = search needs
 
 cell-on-requires : tie.Need-cell-on-requires Inv-loop μ-loop
 cell-on-requires c κs =
-    let l = c .before .before .before in
-    point-accepted _ _ _ _ (start l .pre .1 .0) (some l) (few l) _ (here (c .before .before))
-
-mul-cell-on-2 : tie.Need-mul-cell-on-2 Inv-loop μ-loop
-mul-cell-on-2 c = search needs
+    let l = c .before .before in
+    point-accepted _ _ _ _ (start l .pre .1 .0) (some l) (few l) _ (here (c .before))
 
 shared-slice-read-cell-on-2 : tie.Need-shared-slice-read-cell-on-2 Inv-loop μ-loop
 shared-slice-read-cell-on-2 c =
-    let l = c .before .before .before .before .before in
+    let l = c .before .before .before .before in
     let e = start l .pre .1 .1 .0 .all in
-    let h = here (c .before .before .before .before) in
+    let h = here (c .before .before .before) in
     omega arith
 
 cell-on-requires-2 : tie.Need-cell-on-requires-2 Inv-loop μ-loop
 cell-on-requires-2 c κs =
-    let l = c .before .before .before .before .before in
-    point-accepted _ _ _ _ (start l .pre .1 .1 .0) (some l) (few l) _ (here (c .before .before .before .before))
+    let l = c .before .before .before .before in
+    point-accepted _ _ _ _ (start l .pre .1 .1 .0) (some l) (few l) _ (here (c .before .before .before))
 
 encode-2d-with-requires : tie.Need-encode-2d-with-requires Inv-loop μ-loop
 encode-2d-with-requires c κs = c .before .before .before .before .before .before .before .table .ensures
@@ -90,14 +78,8 @@ coded-is c =
     let y = start l .pre .1 .1 .0 in
     let h = here (c .before .before .before .before .before .before) in
     c .encode-2d-with .ensures
-    ∙ ap₂ (λ (a b : ℕ). encode2 a b order) (c .before .before .before .cell-on .ensures ∙ point-cell _ _ _ _ x (some l) (few l) _ h) (c .before .cell-on2 .ensures ∙ point-cell _ _ _ _ y (some l) (few l) _ h)
+    ∙ ap₂ (λ (a b : ℕ). encode2 a b order) (c .before .before .before .before .cell-on .ensures ∙ point-cell _ _ _ _ x (some l) (few l) _ h) (c .before .before .cell-on2 .ensures ∙ point-cell _ _ _ _ y (some l) (few l) _ h)
     ∙ encode2-index _ _ order (few l) (point-below _ _ _ _ x (some l) (few l) _ h) (point-below _ _ _ _ y (some l) (few l) _ h)
-
-enum-known-coded : tie.Need-enum-known-coded Inv-loop μ-loop
-enum-known-coded c = search needs
-
-mul-indices : tie.Need-mul-indices Inv-loop μ-loop
-mul-indices c = search needs
 
 -- the slice keeps its length
 kept : (l : tie.At-loop Inv-loop μ-loop) → length (l .loop .indices) ≡ length (start l .args .indices .now)
@@ -114,9 +96,6 @@ slice-write-indices c =
     let k = start l .pre .1 .1 .1 in
     omega arith
 
-enum-known-coded-2 : tie.Need-enum-known-coded-2 Inv-loop μ-loop
-enum-known-coded-2 c = search needs
-
 same-length : tie.Need-same-length Inv-loop μ-loop
 same-length c = kept (c .before .before .before .before .before .before .before .before .before .before)
 
@@ -125,12 +104,6 @@ returns c =
     let e = sym (c .before .coded2 .given .1) ∙ coded-is (c .before .before .before) in
     let y : _≡_ {A = ℕ} 0 1 = cc in
     absurd (omega arith)
-
-add-i : tie.Need-add-i Inv-loop μ-loop
-add-i c = search needs
-
-loop-less : tie.Need-loop-less Inv-loop μ-loop
-loop-less c = search needs
 
 loop-again : tie.Need-loop-again Inv-loop μ-loop
 loop-again c =
@@ -153,23 +126,23 @@ write-2d-spec =
     (tie.spec
     Inv-loop
     μ-loop
-    table-requires
+    (λ c κs. search needs)
     loop-holds
-    mul-cell-on
-    shared-slice-read-cell-on
+    (λ c. search needs)
+    (λ c. search needs)
     cell-on-requires
-    mul-cell-on-2
+    (λ c. search needs)
     shared-slice-read-cell-on-2
     cell-on-requires-2
     encode-2d-with-requires
-    enum-known-coded
-    mul-indices
+    (λ c. search needs)
+    (λ c. search needs)
     slice-write-indices
-    enum-known-coded-2
+    (λ c. search needs)
     same-length
     returns
-    add-i
-    loop-less
+    (λ c. search needs)
+    (λ c. search needs)
     loop-again
     same-length-2
     returns-2)

@@ -46,19 +46,10 @@ few l = let h = start l .pre .0 .1 in omega arith
 here : (c : tie.In-loop Inv-loop μ-loop) → c .before .loop .i < length (c .before .before .before .before .before .before .args .xs .now)
 here c = search needs
 
-mul-cell-on : tie.Need-mul-cell-on Inv-loop μ-loop
-mul-cell-on c = search needs
-
-shared-slice-read-cell-on : tie.Need-shared-slice-read-cell-on Inv-loop μ-loop
-shared-slice-read-cell-on c = search needs
-
 cell-on-requires : tie.Need-cell-on-requires Inv-loop μ-loop
 cell-on-requires c κs =
     let l = c .before .before in
     point-accepted _ _ _ _ (start l .pre .1 .0) (some l) (few l) _ (here (c .before))
-
-mul-cell-on-2 : tie.Need-mul-cell-on-2 Inv-loop μ-loop
-mul-cell-on-2 c = search needs
 
 shared-slice-read-cell-on-2 : tie.Need-shared-slice-read-cell-on-2 Inv-loop μ-loop
 shared-slice-read-cell-on-2 c =
@@ -71,9 +62,6 @@ cell-on-requires-2 c κs =
     let l = c .before .before .before .before in
     point-accepted _ _ _ _ (start l .pre .1 .1 .0) (some l) (few l) _ (here (c .before .before .before))
 
-mul-cell-on-3 : tie.Need-mul-cell-on-3 Inv-loop μ-loop
-mul-cell-on-3 c = search needs
-
 shared-slice-read-cell-on-3 : tie.Need-shared-slice-read-cell-on-3 Inv-loop μ-loop
 shared-slice-read-cell-on-3 c =
     let e = c .before .before .before .before .before .before .before .before .before .before .before .pre .1 .1 .1 .0 .all in
@@ -84,9 +72,6 @@ cell-on-requires-3 : tie.Need-cell-on-requires-3 Inv-loop μ-loop
 cell-on-requires-3 c κs =
     let l = c .before .before .before .before .before .before in
     point-accepted _ _ _ _ (start l .pre .1 .1 .1 .0) (some l) (few l) _ (here (c .before .before .before .before .before))
-
-encode-3d-requires : tie.Need-encode-3d-requires Inv-loop μ-loop
-encode-3d-requires c κs = search needs
 
 -- the answer is the index of point i
 coded-is : (c : tie.After-encode-3d Inv-loop μ-loop)
@@ -107,12 +92,6 @@ coded-is c =
     ∙ rw (on-x, on-y, on-z)
     (encode3-index _ _ _ order (start l .pre .0 .1) (point-below _ _ _ _ x (some l) (few l) _ h) (point-below _ _ _ _ y (some l) (few l) _ h) (point-below _ _ _ _ z (some l) (few l) _ h))
 
-enum-known-coded : tie.Need-enum-known-coded Inv-loop μ-loop
-enum-known-coded c = search needs
-
-mul-indices : tie.Need-mul-indices Inv-loop μ-loop
-mul-indices c = search needs
-
 -- the slice keeps its length
 kept : (l : tie.At-loop Inv-loop μ-loop) → length (l .loop .indices) ≡ length (start l .args .indices .now)
 kept l =
@@ -128,9 +107,6 @@ slice-write-indices c =
     let k = start l .pre .1 .1 .1 .1 in
     omega arith
 
-enum-known-coded-2 : tie.Need-enum-known-coded-2 Inv-loop μ-loop
-enum-known-coded-2 c = search needs
-
 same-length : tie.Need-same-length Inv-loop μ-loop
 same-length c = kept (c .before .before .before .before .before .before .before .before .before .before .before)
 
@@ -139,12 +115,6 @@ returns c =
     let e = sym (c .before .coded2 .given .1) ∙ coded-is (c .before .before .before) in
     let y : _≡_ {A = ℕ} 0 1 = cc in
     absurd (omega arith)
-
-add-i : tie.Need-add-i Inv-loop μ-loop
-add-i c = search needs
-
-loop-less : tie.Need-loop-less Inv-loop μ-loop
-loop-less c = search needs
 
 loop-again : tie.Need-loop-again Inv-loop μ-loop
 loop-again c =
@@ -168,24 +138,24 @@ write-3d-spec =
     Inv-loop
     μ-loop
     loop-holds
-    mul-cell-on
-    shared-slice-read-cell-on
+    (λ c. search needs)
+    (λ c. search needs)
     cell-on-requires
-    mul-cell-on-2
+    (λ c. search needs)
     shared-slice-read-cell-on-2
     cell-on-requires-2
-    mul-cell-on-3
+    (λ c. search needs)
     shared-slice-read-cell-on-3
     cell-on-requires-3
-    encode-3d-requires
-    enum-known-coded
-    mul-indices
+    (λ c κs. search needs)
+    (λ c. search needs)
+    (λ c. search needs)
     slice-write-indices
-    enum-known-coded-2
+    (λ c. search needs)
     same-length
     returns
-    add-i
-    loop-less
+    (λ c. search needs)
+    (λ c. search needs)
     loop-again
     same-length-2
     returns-2)
