@@ -10,15 +10,9 @@ use Rattle.axis_laws.proofs.Passed.{inside-answered}
 use Rattle.axis_cell.proofs.cell.Statement.{statement}
 use Rattle.axis_cell.proofs.cell.Tie as tie
 
-made-up-requires : tie.Need-made-up-requires
-made-up-requires c κs = search needs
-
 returns : tie.Need-returns
 unfolding cellOf cellBy cellTests
 returns c = simp (sym (c .before .made-up .ensures) ∙ c .if1 .taken)
-
-unfit-requires : tie.Need-unfit-requires
-unfit-requires c κs = search needs
 
 made : (c : tie.Else1) → madeUp (c .before .before .args .axis) ≡ false
 made c = sym (c .before .made-up .ensures) ∙ c .if1 .left
@@ -26,9 +20,6 @@ made c = sym (c .before .made-up .ensures) ∙ c .if1 .left
 returns-2 : tie.Need-returns-2
 unfolding cellOf cellBy cellTests
 returns-2 c = simp (made (c .before .before), sym (c .before .unfit .ensures) ∙ c .if2 .taken)
-
-low-of-requires : tie.Need-low-of-requires
-low-of-requires c κs = search needs
 
 fit : (c : tie.Else2) → valueUnfit (c .before .before .before .before .args .value) ≡ false
 fit c = sym (c .before .unfit .ensures) ∙ c .if2 .left
@@ -38,9 +29,6 @@ unfolding cellOf cellBy cellTests
 returns-3 c =
     let second = c .before .before in
     simp (made (second .before .before), fit second, ap (lt _) (sym (c .before .low-of .ensures)) ∙ c .if3 .taken)
-
-high-of-requires : tie.Need-high-of-requires
-high-of-requires c κs = search needs
 
 not-below : (c : tie.Else3) → let a = c .before .before .before .before .before .before .args in lt (a .value) (lowOf (a .axis)) ≡ false
 not-below c = ap (lt _) (sym (c .before .low-of .ensures)) ∙ c .if3 .left
@@ -78,13 +66,13 @@ pub cell-spec : {M : Type 1} → statement M
 cell-spec =
     tie.close
     (tie.spec
-    made-up-requires
+    (λ c κs. search needs)
     returns
-    unfit-requires
+    (λ c κs. search needs)
     returns-2
-    low-of-requires
+    (λ c κs. search needs)
     returns-3
-    high-of-requires
+    (λ c κs. search needs)
     returns-4
     cell-on-requires
     returns-5)

@@ -11,12 +11,6 @@ use Rattle.axis_laws.proofs.CellBelow.{order-few, accepted-ready}
 use Rattle.axis_cell.proofs.cell_on.Statement.{statement}
 use Rattle.axis_cell.proofs.cell_on.Tie as tie
 
-enum-told : tie.Need-enum-told
-enum-told c = search needs
-
-enum-known-axis : tie.Need-enum-known-axis
-enum-known-axis c = search needs
-
 truncating-f64-to-u64-requires : tie.Need-truncating-f64-to-u64-requires
 truncating-f64-to-u64-requires c κs =
     let start = c .before .before .before in
@@ -35,4 +29,4 @@ returns-2 c =
     c .truncating-f64-to-u64 .ensures ∙ sym (ap (λ (a : Axis). cellOn a (c .before .before .before .before .args .value)) (c .before .before .axis .given .1))
 
 pub cell-on-spec : {M : Type 1} → statement M
-cell-on-spec = tie.close (tie.spec enum-told enum-known-axis truncating-f64-to-u64-requires returns returns-2)
+cell-on-spec = tie.close (tie.spec (λ c. search needs) (λ c. search needs) truncating-f64-to-u64-requires returns returns-2)

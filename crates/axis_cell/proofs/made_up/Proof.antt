@@ -10,21 +10,6 @@ use Rattle.axis_laws.proofs.MadeUp.{made-no-nan}
 use Rattle.axis_cell.proofs.made_up.Statement.{statement}
 use Rattle.axis_cell.proofs.made_up.Tie as tie
 
-low-of-requires : tie.Need-low-of-requires
-low-of-requires c κs = search needs
-
-high-of-requires : tie.Need-high-of-requires
-high-of-requires c κs = search needs
-
-order-of-requires : tie.Need-order-of-requires
-order-of-requires c κs = search needs
-
-make-axis-requires : tie.Need-make-axis-requires
-make-axis-requires c κs = search needs
-
-enum-known-answer : tie.Need-enum-known-answer
-enum-known-answer c = search needs
-
 -- the answer is that of making the axis anew
 anew : (c : tie.After-make-axis) → let a = c .before .before .before .before .args .axis in c .make-axis .result ≡ makeAxis (lowOf a) (highOf a) (orderOf a)
 anew c = rw (c .make-axis .ensures, c .before .order-of .ensures, c .before .before .high-of .ensures, c .before .before .before .low-of .ensures)
@@ -35,21 +20,9 @@ unfolding madeUp
 judged c a m e f =
     ap (λ (x : Axis). not (isAnew m x)) (sym e) ∙ ap (λ (x : AxisAnswer). not (isAnew x (c .before .before .before .before .args .axis))) (sym f ∙ anew c)
 
-enum-told : tie.Need-enum-told
-enum-told c = search needs
-
 returns : tie.Need-returns
 unfolding isAnew
 returns c = judged (c .before .before) _ _ refl (c .enum-told .given .1)
-
-enum-told-2 : tie.Need-enum-told-2
-enum-told-2 c = search needs
-
-enum-told-3 : tie.Need-enum-told-3
-enum-told-3 c = search needs
-
-enum-told-4 : tie.Need-enum-told-4
-enum-told-4 c = search needs
 
 returns-2 : tie.Need-returns-2
 unfolding isAnew
@@ -57,15 +30,6 @@ returns-2 c =
     let flat = c .before .before in
     let answer = flat .before .before .before in
     judged (answer .before .before) _ _ (flat .enum-told2 .given .1) (answer .answer .given .1 ∙ ap made.Made (c .enum-told4 .given .1))
-
-enum-known-axis : tie.Need-enum-known-axis
-enum-known-axis c = search needs
-
-enum-known-anew : tie.Need-enum-known-anew
-enum-known-anew c = search needs
-
-enum-told-5 : tie.Need-enum-told-5
-enum-told-5 c = search needs
 
 returns-3 : tie.Need-returns-3
 unfolding isAnew
@@ -99,20 +63,20 @@ pub made-up-spec : {M : Type 1} → statement M
 made-up-spec =
     tie.close
     (tie.spec
-    low-of-requires
-    high-of-requires
-    order-of-requires
-    make-axis-requires
-    enum-known-answer
-    enum-told
+    (λ c κs. search needs)
+    (λ c κs. search needs)
+    (λ c κs. search needs)
+    (λ c κs. search needs)
+    (λ c. search needs)
+    (λ c. search needs)
     returns
-    enum-told-2
-    enum-told-3
-    enum-told-4
+    (λ c. search needs)
+    (λ c. search needs)
+    (λ c. search needs)
     returns-2
-    enum-known-axis
-    enum-known-anew
-    enum-told-5
+    (λ c. search needs)
+    (λ c. search needs)
+    (λ c. search needs)
     returns-3
     same-bits-requires
     returns-4

@@ -16,15 +16,9 @@ returns : tie.Need-returns
 unfolding makeAxis axisBy axisTests
 returns c = simp (lt-ltb _ _ (c .if1 .taken))
 
-unfit-requires : tie.Need-unfit-requires
-unfit-requires c κs = search needs
-
 returns-2 : tie.Need-returns-2
 unfolding makeAxis axisBy axisTests any
 returns-2 c = simp (le-ltb _ _ (c .before .before .if1 .left), sym (c .before .unfit .ensures) ∙ c .if2 .taken)
-
-unfit-requires-2 : tie.Need-unfit-requires-2
-unfit-requires-2 c κs = search needs
 
 low-fit : (c : tie.Else2) → valueUnfit (c .before .before .before .args .low) ≡ false
 low-fit c = sym (c .before .unfit .ensures) ∙ c .if2 .left
@@ -43,9 +37,6 @@ unfolding makeAxis axisBy axisTests any
 returns-4 c =
     let second = c .before .before .before in
     simp (le-ltb _ _ (second .before .before .if1 .left), low-fit second, high-fit (c .before), c .if4 .taken)
-
-thin-requires : tie.Need-thin-requires
-thin-requires c κs = search needs
 
 returns-5 : tie.Need-returns-5
 unfolding makeAxis axisBy axisTests any
@@ -85,12 +76,12 @@ make-axis-spec =
     tie.close
     (tie.spec
     returns
-    unfit-requires
+    (λ c κs. search needs)
     returns-2
-    unfit-requires-2
+    (λ c κs. search needs)
     returns-3
     returns-4
-    thin-requires
+    (λ c κs. search needs)
     returns-5
     returns-6
     factor-of-requires

@@ -11,9 +11,6 @@ use Rattle.axis_make.proofs.next_down.Tie as tie
 float-to-bits-result : tie.Need-float-to-bits-result
 float-to-bits-result c = subst (λ (t : Bool). T (not t)) (sym (no-nan (c .args .f) (upward-of-pattern (c .args .f) (c .pre .1)))) tt
 
-sub-result : tie.Need-sub-result
-sub-result c = search needs
-
 float-from-bits-result : tie.Need-float-from-bits-result
 float-from-bits-result c = subst (λ (t : Bool). T (not t)) (sym (step-no-nan (c .args .f) (c .pre .0) (c .pre .1))) tt
 
@@ -22,4 +19,4 @@ unfolding nextDown
 returns c = refl
 
 pub next-down-spec : {M : Type 1} → statement M
-next-down-spec = tie.close (tie.spec float-to-bits-result sub-result float-from-bits-result returns)
+next-down-spec = tie.close (tie.spec float-to-bits-result (λ c. search needs) float-from-bits-result returns)

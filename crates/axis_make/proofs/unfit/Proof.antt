@@ -1,9 +1,8 @@
 -- `axis_make::unfit` meets its contract: the code's two numbers are those of the rule. Assumes nothing.
 use mathlib.Core.Path.{sym, ap}
-use mathlib.Core.Bool.{Bool, not, _&&_}
+use mathlib.Core.Bool.{Bool, false, not, _&&_}
 use lib.Ieee.{le, fin, ofBits, neg}
 use lib.IntN.{pos}
-use mathlib.Core.Bool.{false}
 use Rattle.rules.specs.Refusals.{valueUnfit}
 use Rattle.axis_make.proofs.unfit.Statement.{statement}
 use Rattle.axis_make.proofs.unfit.Tie as tie

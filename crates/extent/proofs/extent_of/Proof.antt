@@ -29,9 +29,6 @@ returns : tie.Need-returns Inv-loop μ-loop
 unfolding ofBits
 returns c = rw (← none (c .before .before .args .xs .now) (c .if1 .taken))
 
-shared-slice-read-first : tie.Need-shared-slice-read-first Inv-loop μ-loop
-shared-slice-read-first c = search needs
-
 -- the extent starts with the first point
 starts : (xs : List Float) → 0 < length xs → widenAll (record { low = getD xs 0 nan; high = getD xs 0 nan }) (drop 1 xs) ≡ extentOf xs
 unfolding extentOf
@@ -40,21 +37,6 @@ starts (x ∷ xs) h = refl
 
 loop-holds : tie.Need-loop-holds Inv-loop μ-loop
 loop-holds c = (search needs, starts _ (search needs))
-
-mul-widen-by : tie.Need-mul-widen-by Inv-loop μ-loop
-mul-widen-by c = search needs
-
-shared-slice-read-widen-by : tie.Need-shared-slice-read-widen-by Inv-loop μ-loop
-shared-slice-read-widen-by c = search needs
-
-widen-by-requires : tie.Need-widen-by-requires Inv-loop μ-loop
-widen-by-requires c κs = search needs
-
-add-i : tie.Need-add-i Inv-loop μ-loop
-add-i c = search needs
-
-loop-less : tie.Need-loop-less Inv-loop μ-loop
-loop-less c = search needs
 
 -- one point further
 further : (xs : List Float) (i : ℕ) (e e' : Extent) → i < length xs → widenAll e (drop i xs) ≡ extentOf xs → e' ≡ widen e (getD xs i nan) → widenAll e' (drop (i + 1) xs) ≡ extentOf xs
@@ -81,12 +63,12 @@ extent-of-spec =
     Inv-loop
     μ-loop
     returns
-    shared-slice-read-first
+    (λ c. search needs)
     loop-holds
-    mul-widen-by
-    shared-slice-read-widen-by
-    widen-by-requires
-    add-i
-    loop-less
+    (λ c. search needs)
+    (λ c. search needs)
+    (λ c κs. search needs)
+    (λ c. search needs)
+    (λ c. search needs)
     loop-again
     returns-2)

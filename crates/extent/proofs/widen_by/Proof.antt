@@ -4,15 +4,9 @@ use Rattle.rules.specs.Axis.{widen}
 use Rattle.extent.proofs.widen_by.Statement.{statement}
 use Rattle.extent.proofs.widen_by.Tie as tie
 
-lower-requires : tie.Need-lower-requires
-lower-requires c κs = search needs
-
-higher-requires : tie.Need-higher-requires
-higher-requires c κs = search needs
-
 returns : tie.Need-returns
 unfolding widen
 returns c = rw (c .before .lower .ensures, c .higher .ensures)
 
 pub widen-by-spec : {M : Type 1} → statement M
-widen-by-spec = tie.close (tie.spec lower-requires higher-requires returns)
+widen-by-spec = tie.close (tie.spec (λ c κs. search needs) (λ c κs. search needs) returns)

@@ -13,7 +13,7 @@ use Rattle.rules.specs.Curve.{space, cell3, indexOf}
 use Rattle.rules.specs.Knots.{knot}
 use Rattle.rules.specs.declared.Coded.the-variants as coded
 use Rattle.curve_laws.proofs.Refusals.{encode3-index}
-use Rattle.points.proofs.Filled.{filled, filled-length, filled-whole, filled-more}
+use Rattle.points.proofs.Written.{written, written-length, written-whole, written-more}
 use Rattle.points.proofs.Points.{point-accepted, point-cell, point-below}
 use Rattle.knots_3d.proofs.write_3d.Statement.{statement}
 use Rattle.knots_3d.proofs.write_3d.Tie as tie
@@ -23,7 +23,7 @@ abbrev index : List Float → List Float → List Float → ℕ → ℕ → ℕ
 index xs ys zs order i = indexOf space order (cell3 (knot xs order i) (knot ys order i) (knot zs order i))
 
 abbrev Inv-loop : tie.InvT-loop
-Inv-loop xs ys zs xaxis yaxis zaxis order indices₀ i₀ indices i = (i ≤ length xs) × (indices ≡ filled (index xs ys zs order) i indices₀)
+Inv-loop xs ys zs xaxis yaxis zaxis order indices₀ i₀ indices i = (i ≤ length xs) × (indices ≡ written (index xs ys zs order) i indices₀)
 
 abbrev μ-loop : tie.MeasureT-loop
 μ-loop xs ys zs xaxis yaxis zaxis order indices₀ i₀ indices i = length xs - i
@@ -97,7 +97,7 @@ kept : (l : tie.At-loop Inv-loop μ-loop) → length (l .loop .indices) ≡ leng
 kept l =
     let k = start l .pre .1 .1 .1 .1 in
     let i = l .loop .inv .0 in
-    ap length (l .loop .inv .1) ∙ filled-length _ _ _ (omega arith)
+    ap length (l .loop .inv .1) ∙ written-length _ _ _ (omega arith)
 
 slice-write-indices : tie.Need-slice-write-indices Inv-loop μ-loop
 slice-write-indices c =
@@ -121,7 +121,7 @@ loop-again c =
     let l = c .before .before .before .before .before .before .before .before .before .before .before in
     let k = start l .pre .1 .1 .1 .1 in
     let h = here (c .before .before .before .before .before .before .before .before .before .before) in
-    (search needs, filled-more _ _ _ _ _ (omega arith) (l .loop .inv .1) (sym (c .before .coded .given .1) ∙ coded-is (c .before .before .before)))
+    (search needs, written-more _ _ _ _ _ (omega arith) (l .loop .inv .1) (sym (c .before .coded .given .1) ∙ coded-is (c .before .before .before)))
 
 same-length-2 : tie.Need-same-length-2 Inv-loop μ-loop
 same-length-2 c = kept (c .before)
@@ -129,7 +129,7 @@ same-length-2 c = kept (c .before)
 returns-2 : tie.Need-returns-2 Inv-loop μ-loop
 returns-2 c =
     let l = c .before in
-    (refl, l .loop .inv .1 ∙ filled-whole _ _ _ _ (c .loop-test .left) (l .loop .inv .0) (start l .pre .1 .1 .1 .1))
+    (refl, l .loop .inv .1 ∙ written-whole _ _ _ _ (c .loop-test .left) (l .loop .inv .0) (start l .pre .1 .1 .1 .1))
 
 pub write-3d-spec : {M : Type 1} → statement M
 write-3d-spec =

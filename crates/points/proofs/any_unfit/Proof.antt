@@ -23,15 +23,6 @@ abbrev μ-loop : tie.MeasureT-loop
 loop-holds : tie.Need-loop-holds Inv-loop μ-loop
 loop-holds c = (search needs, refl)
 
-mul-unfit : tie.Need-mul-unfit Inv-loop μ-loop
-mul-unfit c = search needs
-
-shared-slice-read-unfit : tie.Need-shared-slice-read-unfit Inv-loop μ-loop
-shared-slice-read-unfit c = search needs
-
-unfit-requires : tie.Need-unfit-requires Inv-loop μ-loop
-unfit-requires c κs = search needs
-
 -- the value at i, and those after it
 at : (xs : List Float) (i : ℕ) → i < length xs → any valueUnfit (drop i xs) ≡ valueUnfit (getD xs i nan) || any valueUnfit (drop (suc i) xs)
 unfolding any
@@ -49,12 +40,6 @@ returns c =
     let l = c .before .before .before .before in
     let h : l .loop .i < length (l .before .before .args .xs .now) = search needs in
     found _ _ h (l .loop .inv .1) (sym (c .before .unfit .ensures) ∙ c .if1 .taken)
-
-add-i : tie.Need-add-i Inv-loop μ-loop
-add-i c = search needs
-
-loop-less : tie.Need-loop-less Inv-loop μ-loop
-loop-less c = search needs
 
 loop-again : tie.Need-loop-again Inv-loop μ-loop
 loop-again c =
@@ -78,11 +63,11 @@ any-unfit-spec =
     Inv-loop
     μ-loop
     loop-holds
-    mul-unfit
-    shared-slice-read-unfit
-    unfit-requires
+    (λ c. search needs)
+    (λ c. search needs)
+    (λ c κs. search needs)
     returns
-    add-i
-    loop-less
+    (λ c. search needs)
+    (λ c. search needs)
     loop-again
     returns-2)

@@ -9,20 +9,20 @@ use Rattle.rules.specs.Sums.{list}
 use Rattle.rules.specs.declared.Coded.the-variants as coded
 use Rattle.laws.proofs.Lists.{length-list, list-more}
 
-abbrev pub filled : (ℕ → ℕ) → ℕ → List ℕ → List ℕ
-filled f i old = list f i ++ drop i old
+abbrev pub written : (ℕ → ℕ) → ℕ → List ℕ → List ℕ
+written f i old = list f i ++ drop i old
 
-pub filled-length : (f : ℕ → ℕ) (i : ℕ) (old : List ℕ) → i ≤ length old → length (filled f i old) ≡ length old
-filled-length f i old h = omega (arith, length-append (list f i) (drop i old), length-list f i, length-drop i old)
+pub written-length : (f : ℕ → ℕ) (i : ℕ) (old : List ℕ) → i ≤ length old → length (written f i old) ≡ length old
+written-length f i old h = omega (arith, length-append (list f i) (drop i old), length-list f i, length-drop i old)
 
-pub filled-whole : (f : ℕ → ℕ) (i n : ℕ) (old : List ℕ) → n ≤ i → i ≤ n → length old ≡ n → filled f i old ≡ list f n
-filled-whole f i n old h k e =
+pub written-whole : (f : ℕ → ℕ) (i n : ℕ) (old : List ℕ) → n ≤ i → i ≤ n → length old ≡ n → written f i old ≡ list f n
+written-whole f i n old h k e =
     let z : i ≡ n = omega arith in
     let y : n ≡ length old = sym e in
     rw z (ap (λ (j : ℕ). list f n ++ drop j old) y ∙ ap (λ (l : List ℕ). list f n ++ l) (drop-length old) ∙ append-nil (list f n))
 
 -- one more element
-pub filled-more : (f : ℕ → ℕ) (l old : List ℕ) (i v : ℕ) → i < length old → l ≡ filled f i old → coded.Index v ≡ coded.Index (f i) → set l i v ≡ filled f (i + 1) old
-filled-more f l old i v h e k =
+pub written-more : (f : ℕ → ℕ) (l old : List ℕ) (i v : ℕ) → i < length old → l ≡ written f i old → coded.Index v ≡ coded.Index (f i) → set l i v ≡ written f (i + 1) old
+written-more f l old i v h e k =
     let z : v ≡ f i = cc in
     rw (e, z) (list-more f old i h)
