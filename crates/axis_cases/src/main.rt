@@ -5,7 +5,7 @@ use axis::cell;
 use axis::extent_of;
 use axis::make_axis;
 use axis::make_axis_default;
-use axis::number_of;
+use axis_make::axis_refusal;
 use libc::STDOUT_FILENO;
 use rules::Axis;
 use rules::AxisAnswer;
@@ -34,7 +34,7 @@ fn show(name: &[u8], answer: CellAnswer) {
 // The cell of a value on an axis that is yet to be made, or the number of refusal handed on.
 fn cell_from(answer: AxisAnswer, value: f64) -> CellAnswer {
     let AxisAnswer::Made(axis) = answer else {
-        return CellAnswer::Refused(number_of(answer));
+        return CellAnswer::Refused(axis_refusal(answer));
     };
     cell(axis, value)
 }

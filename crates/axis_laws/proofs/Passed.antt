@@ -11,7 +11,7 @@ use lib.Ieee.Scale.{finite}
 use Rattle.rules.specs.Sums.{any}
 use Rattle.rules.specs.Refusals.{firstOf, top2, valueUnfit, axisThin, axisTests, cellTests}
 use Rattle.laws.proofs.Any.{neither}
-use Rattle.laws.proofs.Exactly.{none-passes}
+use Rattle.laws.proofs.Exactly.{exactly, none-passes}
 use Rattle.axis_laws.proofs.SubMono.{and-l, and-r}
 use Rattle.axis_laws.proofs.Width.{in-size-finite}
 
@@ -69,4 +69,5 @@ inside madeUp low high value e =
 
 pub inside-answered : (madeUp : Bool) (low high value : Float) → Inside madeUp low high value → firstOf (cellTests madeUp low high value) ≡ 0
 unfolding cellTests
-inside-answered madeUp low high value i = simp (i .made, i .value-fit, i .not-below, i .not-above)
+inside-answered madeUp low high value i =
+    exactly (cellTests madeUp low high value) tt .none (i .made, (i .value-fit, (rw (i .not-below, i .not-above), tt)))

@@ -6,29 +6,21 @@
 ghost use mathlib.Core.Path.{_≡_};
 ghost use Rattle.rules.specs.Refusals.{readCell};
 ghost use Rattle.axis_out.specs.Cells.{cellBetween};
+use axis_cell::cell_refusal;
+use axis_make::axis_refusal;
 use rules::ANSWERED;
 use rules::AxisAnswer;
 use rules::CellAnswer;
-
-// The number of refusal of an answer, 0 for a cell.
-fn number_of(answer: CellAnswer) -> u32
-    ensures { λ r. ⌜ r ≡ readCell answer .number ⌝ }
-{
-    match answer {
-        CellAnswer::Cell(_) => ANSWERED,
-        CellAnswer::Refused(number) => number,
-    }
-}
 
 // The cell of a value on the axis of low, high and order, or the refusal of either.
 fn cell_between(low: f64, high: f64, order: u32, value: f64) -> CellAnswer
     ensures { λ r. ⌜ r ≡ cellBetween low high order value ⌝ }
 {
-    let answer = axis::make_axis(low, high, order);
+    let answer = axis_make::make_axis(low, high, order);
     let AxisAnswer::Made(made) = answer else {
-        return CellAnswer::Refused(axis::number_of(answer));
+        return CellAnswer::Refused(axis_refusal(answer));
     };
-    axis::cell(made, value)
+    axis_cell::cell(made, value)
 }
 
 // The number of refusal of a value on the axis of low, high and order; its cell, or 0, in `cell`.
@@ -39,7 +31,7 @@ pub fn cell(low: f64, high: f64, order: u32, value: f64, cell: &mut u64) -> u32
     let answer = cell_between(low, high, order, value);
     let CellAnswer::Cell(c) = answer else {
         *cell = 0;
-        return number_of(answer);
+        return cell_refusal(answer);
     };
     *cell = c;
     ANSWERED

@@ -113,7 +113,7 @@ fn with_word(
             fault_at(no_decimal(&text[start..end], met), start, end),
         );
     };
-    if axis::unfit(value) {
+    if axis_make::unfit(value) {
         return failed(table, fault_at(FAR, start, end));
     }
     store(table.points, table.open, value, xs, ys, zs);

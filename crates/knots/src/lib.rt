@@ -3,18 +3,14 @@
 // A call tests, each over all points and axes before the next: the order, that there are points, the lengths of the slices, the values,
 // the axes. Only then does it write, one index for each point; after a refusal the index slice is as it was.
 //
-//   boxes   the values and the axis of points
-//   plane   2D
-//   space   3D
+//   points     the values and the axis of points
+//   knots_2d   2D
+//   knots_3d   3D
 //
 // A caller may rely on these, of axis_laws: accepts (the axis of points accepts each of them) and knot-below (a point's cell lies below
-// 2^order), so that no point is refused once the tests are passed. Each promise has one answer (proofs/Once.antt, `index-2d-only` and
-// so on).
-mod boxes;
-mod plane;
-mod space;
-
-pub use plane::index_2d;
-pub use plane::index_2d_default;
-pub use space::index_3d;
-pub use space::index_3d_default;
+// 2^order), so that no point is refused once the tests are passed. Each promise has one answer (`index-2d-only` and so on, proofs/Once.antt
+// of knots_2d and knots_3d).
+pub use knots_2d::index_2d;
+pub use knots_2d::index_2d_default;
+pub use knots_3d::index_3d;
+pub use knots_3d::index_3d_default;

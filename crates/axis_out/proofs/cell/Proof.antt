@@ -10,7 +10,7 @@ refused : tie.Need-returns
 refused c =
     let told = c .before .enum-told .given .1 in
     let answer = c .before .before .before .cell-between .ensures in
-    (c .number-of .ensures ∙ ap (λ (a : CellAnswer). readCell a .number) answer, ap (λ (a : CellAnswer). readCell a .value) (sym told ∙ answer))
+    (c .cell-refusal .ensures ∙ ap (λ (a : CellAnswer). readCell a .number) answer, ap (λ (a : CellAnswer). readCell a .value) (sym told ∙ answer))
 
 answered : tie.Need-returns-2
 answered c =

@@ -12,7 +12,7 @@ refused : tie.Need-returns
 unfolding cellFrom
 refused c =
     let told = c .before .enum-told .given .1 in
-    rw (← c .before .before .before .make-axis .ensures, told) (ap found.Refused (c .number-of .ensures ∙ ap (λ (a : AxisAnswer). readAxis a .number) told))
+    rw (← c .before .before .before .make-axis .ensures, told) (ap found.Refused (c .axis-refusal .ensures ∙ ap (λ (a : AxisAnswer). readAxis a .number) told))
 
 found-on : tie.Need-returns-2
 unfolding cellFrom

@@ -1,5 +1,0 @@
-pub mod Points
-pub mod Filled
-pub mod Filed
-pub mod Axes
-pub mod Once
