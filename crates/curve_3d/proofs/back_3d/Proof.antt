@@ -1,13 +1,14 @@
 -- `back_3d` meets its contract: what is done of each coordinate, shifted up, and what the digits to come give in the state that is reached, is
 -- the whole coordinate. Assumes nothing.
 use Prim.Native.Nat.{ℕ, _≤_, _<_, _-_, _*_, _/_, _%_, _^_}
-use mathlib.Core.Path.{_≡_, refl, _∙_, ap, sym}
+use mathlib.Core.Path.{_≡_, refl, _∙_, ap, ap₂, sym}
 use native.Mathlib.Omega.{arith}
 use native.Mathlib.Nat.{div-one}
 use borrow.Author.Needs.{needs}
 use lib.Bits.{bitAnd, and-mask, mask-lt}
 use lib.Dec.{lit<}
 use Rattle.rules.specs.Curve.{level, space, coordinateOf}
+use Rattle.rules.specs.declared.Cell3.the-variants.{At}
 use Rattle.curve_laws.proofs.Permutes.{space-permutes}
 use Rattle.curve_laws.proofs.Turns.{nothing-done, all-decoded}
 use Rattle.curve_laws.proofs.DecodeTurn.{Done, next-state, next-bit, fits}
@@ -93,7 +94,8 @@ returns c =
     let x-is = all-decoded space 2 left (at .state) g (at .x) _ z (at .inv .4) in
     let y-is = all-decoded space 1 left (at .state) g (at .y) _ z (at .inv .5) in
     let z-is = all-decoded space 0 left (at .state) g (at .z) _ z (at .inv .6) in
-    cc (x-is, y-is, z-is)
+    let on : ℕ → ℕ = coordinateOf space (c .before .before .args .order) (c .before .before .args .index) in
+    ap₂ (λ (m n : ℕ). At m n (at .z)) x-is y-is ∙ ap (At (on 2) (on 1)) z-is
 
 pub back-3d-spec : {M : Type 1} → statement M
 back-3d-spec =
