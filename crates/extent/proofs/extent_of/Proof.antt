@@ -6,16 +6,17 @@ use native.Mathlib.Omega.{arith}
 use native.Mathlib.Numerals.{add-one}
 use borrow.Author.Needs.{needs}
 use lib.ListN.{length, getD, drop}
-use lib.Seq.{drop-cons, drop-length}
+use lib.Seq.{drop-cons}
 use lib.Ieee.{Float, nan, ofBits}
 use Rattle.rules.specs.declared.Extent.{Extent}
 use Rattle.rules.specs.Refusals.{nought}
 use Rattle.rules.specs.Axis.{widen, widenAll, extentOf}
+use Rattle.extent.proofs.PastTheEnd.{none-left}
 use Rattle.extent.proofs.extent_of.Statement.{statement}
 use Rattle.extent.proofs.extent_of.Tie as tie
 
 abbrev Inv-loop : tie.InvT-loop
-Inv-loop xs first extent₀ i₀ extent i = (i ≤ length xs) × (widenAll extent (drop i xs) ≡ extentOf xs)
+Inv-loop xs first extent₀ i₀ extent i = widenAll extent (drop i xs) ≡ extentOf xs
 
 abbrev μ-loop : tie.MeasureT-loop
 μ-loop xs first extent₀ i₀ extent i = length xs - i
@@ -36,7 +37,7 @@ starts [] h = absurd (omega arith)
 starts (x ∷ xs) h = refl
 
 loop-holds : tie.Need-loop-holds Inv-loop μ-loop
-loop-holds c = (search needs, starts _ (search needs))
+loop-holds c = starts _ (search needs)
 
 -- one point further
 further : (xs : List Float) (i : ℕ) (e e' : Extent) → i < length xs → widenAll e (drop i xs) ≡ extentOf xs → e' ≡ widen e (getD xs i nan) → widenAll e' (drop (i + 1) xs) ≡ extentOf xs
@@ -44,17 +45,14 @@ unfolding widenAll
 further xs i e e' h k w = rw (w, add-one) (ap (widenAll e) (sym (drop-cons xs i nan h)) ∙ k)
 
 loop-again : tie.Need-loop-again Inv-loop μ-loop
-loop-again c = (search needs, further _ _ _ _ (search needs) (c .before .before .before .loop .inv .1) (c .widen-by .ensures))
+loop-again c = further _ _ _ _ (search needs) (c .before .before .before .loop .inv) (c .widen-by .ensures)
 
--- none left
-ended : (xs : List Float) (i : ℕ) (e : Extent) → length xs ≤ i → i ≤ length xs → widenAll e (drop i xs) ≡ extentOf xs → e ≡ extentOf xs
+ended : (xs : List Float) (i : ℕ) (e : Extent) → length xs ≤ i → widenAll e (drop i xs) ≡ extentOf xs → e ≡ extentOf xs
 unfolding widenAll
-ended xs i e h k w =
-    let z : i ≡ length xs = omega arith in
-    sym (ap (widenAll e) (ap (λ (j : ℕ). drop j xs) z ∙ drop-length xs)) ∙ w
+ended xs i e h w = sym (ap (widenAll e) (none-left xs i h)) ∙ w
 
 returns-2 : tie.Need-returns-2 Inv-loop μ-loop
-returns-2 c = rw (← ended _ _ _ (c .loop-test .left) (c .before .loop .inv .0) (c .before .loop .inv .1))
+returns-2 c = rw (← ended _ _ _ (c .loop-test .left) (c .before .loop .inv))
 
 pub extent-of-spec : {M : Type 1} → statement M
 extent-of-spec =
