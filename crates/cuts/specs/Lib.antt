@@ -1,3 +1,2 @@
-pub mod Solid
-pub mod Median
-pub mod SubGrids
+pub mod Cuts
+pub mod Trees

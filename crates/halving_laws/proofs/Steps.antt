@@ -1,10 +1,11 @@
 -- The tree of cuts, step by step, as the code writes it.
-use Prim.Native.Nat.{ℕ, zero, suc, _+_, _-_, _*_, _≤_, _<_}
+use Prim.Native.Nat.{ℕ, zero, suc, _+_, _-_, _*_, _^_, _≤_, _<_}
 use native.Mathlib.Omega.{arith}
 use mathlib.Core.Path.{_≡_, refl}
 use mathlib.Core.List.{List}
 use lib.ListN.{length, set}
 use Rattle.rules.specs.Grid.{Block, side, before, after}
+use Rattle.rules.specs.Refusals.{topDepth}
 use Rattle.rules.specs.Halving.{Edition, nextAxis, cutAt, unlessFlat, fill}
 use Rattle.halving_laws.specs.Nodes.{Room, Places}
 use Rattle.halving_laws.proofs.Heap.{room-here, room-left, room-right}
@@ -58,8 +59,8 @@ first-places {node} {d} {n} p f = record { room = first-room node d n f (p .room
 pub second-places : {node d n : ℕ} → Places node d n → (d ≡ 0 → ⊥) → Places (2 * node + 1) (d - 1) n
 second-places {node} {d} {n} p f = record { room = second-room node d n f (p .room); short = p .short }
 
--- the nodes of splits for twelve levels are small
-pub small-node : (node d n : ℕ) → (d ≡ 0 → ⊥) → Places node d n → node ≤ 4095
+-- the nodes of such splits are small
+pub small-node : (node d n : ℕ) → (d ≡ 0 → ⊥) → Places node d n → node < 2 ^ topDepth
 small-node node d n f p = omega (arith, p .short, p .room .first, place-here node d n f p)
 
 -- one level fewer

@@ -1,10 +1,11 @@
 -- The nodes of a tree of splits, and the blocks at its end.
-use Prim.Native.Nat.{ℕ, zero, suc, _+_, _-_, _*_, _^_, _≤_}
+use Prim.Native.Nat.{ℕ, zero, suc, _+_, _-_, _*_, _^_, _≤_, _<_}
 use mathlib.Core.Bool.{Bool, true, false}
 use mathlib.Core.List.{List}
 use lib.ListN.{length}
 use lib.Dec.{ltb}
 use Rattle.rules.specs.Grid.{Block, whole, before, after}
+use Rattle.rules.specs.Refusals.{topDepth}
 use Rattle.rules.specs.Halving.{nextAxis, cut}
 
 -- n splits have places for d levels from a node on
@@ -12,10 +13,10 @@ pub record Room (node d n : ℕ) : Type 0 where
   pub first : 1 ≤ node
   pub room : (node + 1) * 2 ^ d ≤ 2 * (n + 1)
 
--- the same of splits for at most twelve levels
+-- the same of splits for no more levels than a halving has
 pub record Places (node d n : ℕ) : Type 0 where
   pub room : Room node d n
-  pub short : n ≤ 4095
+  pub short : n < 2 ^ topDepth
 
 unfoldable pub choose : Bool → Block → Block → Block
 choose true b c = b

@@ -1,0 +1,10 @@
+-- The rule's tree below a block of the code.
+use Prim.Native.Nat.{ℕ}
+use mathlib.Core.List.{List}
+use Rattle.rules.specs.Halving.{edition1, fill}
+use Rattle.blocks.specs.Blocks.{Shape, Across, no, sidesOf, asBlock}
+use Rattle.blocks.specs.declared.Grid.{Grid}
+use Rattle.blocks.specs.declared.SubGrid.{SubGrid}
+
+unfoldable pub tree : Shape → Grid → List ℕ → ℕ → Across → SubGrid → ℕ → List ℕ → List ℕ
+tree s g ws k ax b node splits = fill edition1 (sidesOf s g) ws k (no ax) (asBlock s b) node splits

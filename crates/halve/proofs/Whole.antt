@@ -1,0 +1,73 @@
+-- The grid of a call that is not refused is a sound block, and its splits have places for all nodes.
+use Prim.Native.Nat.{ℕ, _-_, _*_, _^_, _≤_}
+use native.Mathlib.Omega.{arith}
+use native.Mathlib.Nat.{zero-add, mul-one}
+use mathlib.Core.Path.{_≡_, refl, ap, sym, _∙_}
+use mathlib.Core.List.{List}
+use lib.Dec.{lit≤}
+use lib.ListN.{length}
+use lib.Pow.{pow-mono}
+use Rattle.rules.specs.Grid.{cells, whole, weight}
+use Rattle.rules.specs.Refusals.{topSide}
+use Rattle.halving_laws.specs.Nodes.{Places}
+use Rattle.halving_laws.specs.Accepted.{Accepted}
+use Rattle.halving_laws.proofs.Heap.{room-root}
+use Rattle.halving_laws.proofs.Weights.{weight-at-most-all}
+use Rattle.halving_laws.proofs.Demand3.{weight-fits}
+use Rattle.blocks.specs.Blocks.{Shape, twoAxes, threeAxes, sidesOf, asBlock, wholeOf, Layered, OneLayer}
+use Rattle.cuts.specs.Cuts.{solid, Readable, Lies, Sound}
+use Rattle.halve.specs.Calls.{halvingOf}
+use Rattle.blocks.specs.declared.Grid.{Grid}
+use Rattle.cuts.proofs.Solids.{weight-is-solid}
+
+pub block-whole : (s : Shape) (g : Grid) → asBlock s (wholeOf g) ≡ whole (sidesOf s g)
+unfolding whole
+block-whole twoAxes g = simp zero-add
+block-whole threeAxes g = simp zero-add
+
+-- the cells of the grid, its layers counted
+cells-are : (s : Shape) (g : Grid) → Layered s g → cells (sidesOf s g) ≡ g .width * (g .height * g .layers)
+unfolding cells
+cells-are twoAxes g y = rw y
+cells-are threeAxes g y = ap (λ (n : ℕ). g .width * (g .height * n)) (mul-one (g .layers))
+
+whole-layer : (s : Shape) (g : Grid) → Layered s g → OneLayer s (wholeOf g)
+whole-layer twoAxes g y = (refl, y)
+whole-layer threeAxes g y = tt
+
+-- every side is at least 1 and at most the longest
+pub sides-fit : (s : Shape) (g : Grid) {k : ℕ} {ws splits ids : List ℕ} → Accepted (halvingOf s g k) ws splits ids → Layered s g
+    → ((1 ≤ g .width) × (g .width ≤ topSide)) × ((1 ≤ g .height) × (g .height ≤ topSide)) × (g .layers ≤ topSide)
+sides-fit twoAxes g r y = (r .sides-fit 0 (lit≤ tt), r .sides-fit 1 (lit≤ tt), omega (arith, y))
+sides-fit threeAxes g r y = (r .sides-fit 0 (lit≤ tt), r .sides-fit 1 (lit≤ tt), r .sides-fit 2 (lit≤ tt) .1)
+
+module _ (s : Shape) (g : Grid) {k : ℕ} {ws splits ids : List ℕ} (r : Accepted (halvingOf s g k) ws splits ids) (y : Layered s g) where
+  readable : Readable g ws
+  readable =
+      let f = sides-fit s g r y in
+      record {
+        width-fits = f .0 .1;
+        height-fits = f .1 .1;
+        layers-fit = f .2;
+        long = omega (arith, r .weights-long, cells-are s g y);
+        light = record { few = omega (arith, r .few, r .weights-long); small = r .light };
+      }
+
+  pub whole-lies : Lies g ws (wholeOf g)
+  whole-lies = record { readable = readable; wide = omega arith; tall = omega arith; deep = omega arith }
+
+  pub whole-sound : {t : ℕ} → t ≡ solid g ws (wholeOf g) → Sound s g ws (wholeOf g) t
+  whole-sound {t} e =
+      let w : t ≡ weight (sidesOf s g) ws (asBlock s (wholeOf g)) = e ∙ sym (weight-is-solid g ws s (wholeOf g) whole-lies (whole-layer s g y)) in
+      record {
+        lies = whole-lies;
+        one-layer = whole-layer s g y;
+        few = omega (arith, w, weight-at-most-all (sidesOf s g) ws (asBlock s (wholeOf g)), weight-fits r);
+        weight = w;
+      }
+
+  pub ids-long : length ids ≡ g .width * (g .height * g .layers)
+  ids-long = r .ids-long ∙ cells-are s g y
+
+  pub root-places : {n : ℕ} → n ≡ 2 ^ k - 1 → Places 1 k n
+  root-places e = rw e (record { room = room-root k; short = omega (arith, pow-mono (r .shallow)) })

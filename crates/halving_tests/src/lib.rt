@@ -1,0 +1,116 @@
+// Whether a halving is refused, and with which number, inside: `halving` calls it. A grid in 2D is tested as one of one layer.
+//
+//   9    a side is 0 or too long, or there are too many cells
+//   10   there are too many levels
+//   5    weights or ids are not one for each cell, or splits are not 2^depth - 1
+//   11   a weight is too heavy
+//
+// The number is that of the first test that passes, and 0 where none does (refusal-2d-only, refusal-3d-only); what follows from
+// 0 is Accepted.
+use blocks::Grid;
+use rules::ANSWERED;
+use rules::Halving2;
+use rules::Halving3;
+use rules::REFUSED_DEPTH;
+use rules::REFUSED_LENGTHS;
+use rules::REFUSED_SIDES;
+use rules::REFUSED_WEIGHT;
+use rules::TOP_CELLS;
+use rules::TOP_DEPTH;
+use rules::TOP_SIDE;
+use rules::TOP_WEIGHT;
+ghost use mathlib.Core.Path.{_≡_};
+ghost use Prim.Native.Nat.{_≤_, _-_, _^_};
+ghost use mathlib.Core.Bool.{_||_};
+ghost use mathlib.Core.List.{[], _∷_};
+ghost use Rattle.rules.specs.Refusals.{topDepth, firstOf, sideUnfit, sidesUnfit, lengthsOff, weightOver, gridTests};
+ghost use Rattle.rules.specs.Halving.{halving2, halving3, refusalOf};
+ghost use Rattle.blocks.specs.Blocks.{threeAxes, sidesOf};
+
+// Whether a side is 0 or too long.
+fn side_unfit(side: usize) -> bool
+    ensures { λ r. ⌜ r ≡ sideUnfit side ⌝ }
+{
+    if side == 0 {
+        return true;
+    }
+    side > TOP_SIDE as usize
+}
+
+// Whether a side is unfit or there are too many cells.
+fn sides_unfit(g: Grid) -> bool
+    ensures { λ r. ⌜ r ≡ sidesUnfit (sidesOf threeAxes g) ⌝ }
+{
+    if side_unfit(g.width) {
+        return true;
+    }
+    if side_unfit(g.height) {
+        return true;
+    }
+    if side_unfit(g.layers) {
+        return true;
+    }
+    g.width * (g.height * g.layers) > TOP_CELLS as usize
+}
+
+// Whether weights or ids are not one for each of the cells, or splits are not 2^depth - 1.
+fn lengths_off(cells: usize, depth: u32, weights: usize, ids: usize, splits: usize) -> bool
+    requires { ⌜ depth ≤ topDepth ⌝ }
+    ensures { λ r. ⌜ r ≡ lengthsOff (cells) (weights ∷ ids ∷ []) || lengthsOff (2 ^ depth - 1) (splits ∷ []) ⌝ }
+{
+    if weights != cells {
+        return true;
+    }
+    if ids != cells {
+        return true;
+    }
+    splits != (1usize << depth) - 1
+}
+
+// Whether a weight is too heavy.
+fn weight_over(weights: &[u64]) -> bool
+    ensures { λ r. ⌜ r ≡ weightOver (now (weights .entry)) ⌝ }
+{
+    for i in 0..weights.len() {
+        if weights[i] > TOP_WEIGHT {
+            return true;
+        }
+    }
+    false
+}
+
+// The number of refusal of a grid with `depth` levels, its weights, and so many ids and splits.
+fn refusal(g: Grid, depth: u32, weights: &[u64], ids: usize, splits: usize) -> u32
+    ensures { λ r. ⌜ r ≡ firstOf (gridTests (sidesOf threeAxes g) depth (now (weights .entry)) ids splits) ⌝ }
+{
+    if sides_unfit(g) {
+        return REFUSED_SIDES;
+    }
+    if depth > TOP_DEPTH {
+        return REFUSED_DEPTH;
+    }
+    let cells = g.width * (g.height * g.layers);
+    if lengths_off(cells, depth, weights.len(), ids, splits) {
+        return REFUSED_LENGTHS;
+    }
+    if weight_over(weights) {
+        return REFUSED_WEIGHT;
+    }
+    ANSWERED
+}
+
+// The number of refusal of a halving in 2D, 0 where it is answered.
+pub fn refusal_2d(halving: Halving2, weights: &[u64], splits: &[u32], ids: &[u32]) -> u32
+    ensures { λ r. ⌜ r ≡ refusalOf (halving2 halving) (now (weights .entry)) (now (splits .entry)) (now (ids .entry)) ⌝ }
+{
+    let g = blocks::grid_2d(halving);
+    refusal(g, halving.depth, weights, ids.len(), splits.len())
+}
+
+// The number of refusal of a halving in 3D, 0 where it is answered.
+pub fn refusal_3d(halving: Halving3, weights: &[u64], splits: &[u32], ids: &[u32]) -> u32
+    ensures { λ r. ⌜ r ≡ refusalOf (halving3 halving) (now (weights .entry)) (now (splits .entry)) (now (ids .entry)) ⌝ }
+{
+    let g = blocks::grid_3d(halving);
+    refusal(g, halving.depth, weights, ids.len(), splits.len())
+}

@@ -1,0 +1,4 @@
+pub mod Way
+pub mod Rows
+pub mod Ids
+pub mod Once

@@ -1,0 +1,265 @@
+-- `recurse_2d_x` and `recurse_2d_y` meet their contracts: the splits they leave are one step of the rule's tree, and the depth falls.
+use Prim.Native.Nat.{ℕ, _^_, _<_}
+use native.Mathlib.Omega.{arith}
+use native.Mathlib.Nat.{pos-of-ne-zero}
+use mathlib.Core.Path.{_∙_}
+use lib.ListN.{length-set}
+use Rattle.rules.specs.Refusals.{topDepth}
+use Rattle.halving_laws.proofs.Steps.{place-here, first-places, second-places, small-node, falls-by}
+use Rattle.blocks.specs.Blocks.{acrossX, acrossY}
+use Rattle.cuts.proofs.Solids.{filled-room}
+use Rattle.cuts.proofs.Cuts.{first-sound, second-sound, left-at-most}
+use Rattle.cuts.proofs.Trees.{tree-end, tree-flat, tree-cut}
+use Rattle.cuts.proofs.cut_block.Reads as cut-block-reads
+use borrow.Fn.Kinds.{In}
+use borrow.Fn.PlainCycle.{Measures, is, falls, and}
+use Rattle.tree_2d.proofs.recurse_2d_x.Reads as x
+use Rattle.tree_2d.proofs.recurse_2d_x.Kinds as x-kinds
+use Rattle.tree_2d.proofs.+recurse_2d_x+recurse_2d_y.Lts-recurse_2d_x as x-lts
+use Rattle.tree_2d.proofs.recurse_2d_y.Reads as y
+use Rattle.tree_2d.proofs.recurse_2d_y.Kinds as y-kinds
+use Rattle.tree_2d.proofs.+recurse_2d_x+recurse_2d_y.Lts-recurse_2d_y as y-lts
+use Rattle.tree_2d.proofs.+recurse_2d_x+recurse_2d_y.{statement}
+use Rattle.tree_2d.proofs.+recurse_2d_x+recurse_2d_y.Tie.{close}
+
+abbrev μ-x : Measures 3 x-kinds.ps ℕ
+μ-x κs p = p .1 .1 .1 .1 .1 .0
+
+abbrev x-at : ℕ → In 3 x-kinds.ps
+x-at t = and 3 x-kinds.ps (is 3 x-kinds.ps μ-x t) x.Pre
+
+abbrev x-below : ℕ → In 3 x-kinds.ps
+x-below t = and 3 x-kinds.ps (falls 3 x-kinds.ps _<_ μ-x t) x.Pre
+
+abbrev μ-y : Measures 3 y-kinds.ps ℕ
+μ-y κs p = p .1 .1 .1 .1 .1 .0
+
+abbrev y-at : ℕ → In 3 y-kinds.ps
+y-at t = and 3 y-kinds.ps (is 3 y-kinds.ps μ-y t) y.Pre
+
+abbrev y-below : ℕ → In 3 y-kinds.ps
+y-below t = and 3 y-kinds.ps (falls 3 y-kinds.ps _<_ μ-y t) y.Pre
+
+abbrev x-calls : ℕ → x-lts.Claims
+x-calls t = (cut-block-reads.Asked, cut-block-reads.Learnt, y-below t, y.Post)
+
+abbrev y-calls : ℕ → y-lts.Claims
+y-calls t = (cut-block-reads.Asked, cut-block-reads.Learnt, x-below t, x.Post)
+
+-- Across x.
+
+x-node-small : (t : ℕ) (c : x-lts.After-cut-block (x-calls t) (x-at t) x.Post) → c .before .before .before .before .before .before .before .args .node < 2 ^ topDepth
+x-node-small t c = small-node _ _ _ (c .before .before .before .before .if1 .left) (c .before .before .before .before .before .before .before .pre .1 .1 .0)
+
+x-returns : (t : ℕ) → x-lts.Need-returns (x-calls t) (x-at t) x.Post
+x-returns t c = (tree-end _ _ _ _ _ _ _ _ (c .if1 .taken), c .before .before .before .pre .1 .1 .1)
+
+x-returns-2 : (t : ℕ) → x-lts.Need-returns-2 (x-calls t) (x-at t) x.Post
+x-returns-2 t c = (tree-flat _ _ _ _ _ _ _ _ tt (c .if2 .taken), c .before .before .before .before .before .pre .1 .1 .1)
+
+x-cut-block-requires : (t : ℕ) → x-lts.Need-cut-block-requires (x-calls t) (x-at t) x.Post
+x-cut-block-requires t c κs =
+    let p = c .before .before .before .before .before .before .pre .1 in
+    (p .0 .lies, ((pos-of-ne-zero (c .before .if2 .left), p .0 .few), p .1 .1))
+
+x-sub-splits : (t : ℕ) → x-lts.Need-sub-splits (x-calls t) (x-at t) x.Post
+x-sub-splits t c = c .before .before .before .before .before .before .before .before .before .pre .1 .1 .0 .room .first
+
+x-mul-splits : (t : ℕ) → x-lts.Need-mul-splits (x-calls t) (x-at t) x.Post
+x-mul-splits t c = omega (arith, x-node-small t (c .before .before))
+
+x-slice-write-splits : (t : ℕ) → x-lts.Need-slice-write-splits (x-calls t) (x-at t) x.Post
+x-slice-write-splits t c = place-here _ _ _ (c .before .before .before .before .before .before .if1 .left) (c .before .before .before .before .before .before .before .before .before .pre .1 .1 .0)
+
+x-mul-recurse-2d-y : (t : ℕ) → x-lts.Need-mul-recurse-2d-y (x-calls t) (x-at t) x.Post
+x-mul-recurse-2d-y t c = omega (arith, x-node-small t (c .before .before))
+
+x-sub-recurse-2d-y : (t : ℕ) → x-lts.Need-sub-recurse-2d-y (x-calls t) (x-at t) x.Post
+x-sub-recurse-2d-y t c = pos-of-ne-zero (c .before .before .before .before .before .before .if1 .left)
+
+x-recurse-2d-y-requires : (t : ℕ) → x-lts.Need-recurse-2d-y-requires (x-calls t) (x-at t) x.Post
+x-recurse-2d-y-requires t c κs =
+    let cut = c .before .before .before .before in
+    let s = cut .before .before .before .before .before .before .before in
+    let deeper = cut .before .before .before .before .if1 .left in (
+      falls-by deeper (s .pre .0),
+      (
+        first-sound (s .pre .1 .0) acrossX tt (pos-of-ne-zero (cut .before .before .if2 .left)) _ (cut .cut-block .ensures .0),
+        (
+          rw (length-set (s .args .splits .now)) (first-places (s .pre .1 .1 .0) deeper),
+          rw (cut .cut-block .ensures .1) (filled-room (s .pre .1 .0 .lies) acrossX _ (s .pre .1 .1 .1)),
+        ),
+      ),
+    )
+
+x-sub-recurse-2d-y-2 : (t : ℕ) → x-lts.Need-sub-recurse-2d-y-2 (x-calls t) (x-at t) x.Post
+x-sub-recurse-2d-y-2 t c =
+    let cut = c .before .before .before .before .before .before .before in
+    left-at-most (cut .before .before .before .before .before .before .before .pre .1 .0) acrossX tt (pos-of-ne-zero (cut .before .before .if2 .left)) _ (cut .cut-block .ensures .0)
+
+x-mul-recurse-2d-y-2 : (t : ℕ) → x-lts.Need-mul-recurse-2d-y-2 (x-calls t) (x-at t) x.Post
+x-mul-recurse-2d-y-2 t c = omega (arith, x-node-small t (c .before .before .before .before .before .before .before))
+
+x-add-recurse-2d-y : (t : ℕ) → x-lts.Need-add-recurse-2d-y (x-calls t) (x-at t) x.Post
+x-add-recurse-2d-y t c = omega (arith, x-node-small t (c .before .before .before .before .before .before .before))
+
+x-sub-recurse-2d-y-3 : (t : ℕ) → x-lts.Need-sub-recurse-2d-y-3 (x-calls t) (x-at t) x.Post
+x-sub-recurse-2d-y-3 t c = pos-of-ne-zero (c .before .before .before .before .before .before .before .before .before .before .before .if1 .left)
+
+x-recurse-2d-y-requires-2 : (t : ℕ) → x-lts.Need-recurse-2d-y-requires-2 (x-calls t) (x-at t) x.Post
+x-recurse-2d-y-requires-2 t c κs =
+    let cut = c .before .before .before .before .before .before .before .before .before in
+    let s = cut .before .before .before .before .before .before .before in
+    let deeper = cut .before .before .before .before .if1 .left in
+    let first = c .before .before .before .before .recurse-2d-y in (
+      falls-by deeper (s .pre .0),
+      (
+        second-sound (s .pre .1 .0) acrossX tt (pos-of-ne-zero (cut .before .before .if2 .left)) _ (cut .cut-block .ensures .0),
+        (rw (first .kept .1 .1 .1 .1 .1 .1 .0 ∙ length-set (s .args .splits .now) _ _) (second-places (s .pre .1 .1 .0) deeper), first .ensures .1),
+      ),
+    )
+
+x-same-length : (t : ℕ) → x-lts.Need-same-length (x-calls t) (x-at t) x.Post
+x-same-length t c =
+    let first = c .before .before .before .before .before .before .before in
+    c .before .before .recurse-2d-y2 .kept .1 .1 .1 .1 .1 .1 .0
+    ∙ first .recurse-2d-y .kept .1 .1 .1 .1 .1 .1 .0
+    ∙ length-set (first .before .before .before .before .before .before .before .before .before .before .before .before .args .splits .now) _ _
+
+x-returns-3 : (t : ℕ) → x-lts.Need-returns-3 (x-calls t) (x-at t) x.Post
+x-returns-3 t c =
+    let first = c .before .before .before .before .before .before .before in
+    let cut = first .before .before .before .before .before in
+    let second = c .before .before .recurse-2d-y2 in (
+      tree-cut _ _ _ _ acrossX _ _ (cut .before .before .before .before .before .before .before .pre .1 .0) _ _ _ _ tt (cut .before .before .before .before .if1 .left) (pos-of-ne-zero (cut .before .before .if2 .left))
+          (cut .cut-block .ensures .0) (first .recurse-2d-y .ensures .0) (second .ensures .0),
+      second .ensures .1,
+    )
+
+-- Across y.
+
+y-node-small : (t : ℕ) (c : y-lts.After-cut-block (y-calls t) (y-at t) y.Post) → c .before .before .before .before .before .before .before .args .node < 2 ^ topDepth
+y-node-small t c = small-node _ _ _ (c .before .before .before .before .if1 .left) (c .before .before .before .before .before .before .before .pre .1 .1 .0)
+
+y-returns : (t : ℕ) → y-lts.Need-returns (y-calls t) (y-at t) y.Post
+y-returns t c = (tree-end _ _ _ _ _ _ _ _ (c .if1 .taken), c .before .before .before .pre .1 .1 .1)
+
+y-returns-2 : (t : ℕ) → y-lts.Need-returns-2 (y-calls t) (y-at t) y.Post
+y-returns-2 t c = (tree-flat _ _ _ _ _ _ _ _ tt (c .if2 .taken), c .before .before .before .before .before .pre .1 .1 .1)
+
+y-cut-block-requires : (t : ℕ) → y-lts.Need-cut-block-requires (y-calls t) (y-at t) y.Post
+y-cut-block-requires t c κs =
+    let p = c .before .before .before .before .before .before .pre .1 in
+    (p .0 .lies, ((pos-of-ne-zero (c .before .if2 .left), p .0 .few), p .1 .1))
+
+y-sub-splits : (t : ℕ) → y-lts.Need-sub-splits (y-calls t) (y-at t) y.Post
+y-sub-splits t c = c .before .before .before .before .before .before .before .before .before .pre .1 .1 .0 .room .first
+
+y-mul-splits : (t : ℕ) → y-lts.Need-mul-splits (y-calls t) (y-at t) y.Post
+y-mul-splits t c = omega (arith, y-node-small t (c .before .before))
+
+y-slice-write-splits : (t : ℕ) → y-lts.Need-slice-write-splits (y-calls t) (y-at t) y.Post
+y-slice-write-splits t c = place-here _ _ _ (c .before .before .before .before .before .before .if1 .left) (c .before .before .before .before .before .before .before .before .before .pre .1 .1 .0)
+
+y-mul-recurse-2d-x : (t : ℕ) → y-lts.Need-mul-recurse-2d-x (y-calls t) (y-at t) y.Post
+y-mul-recurse-2d-x t c = omega (arith, y-node-small t (c .before .before))
+
+y-sub-recurse-2d-x : (t : ℕ) → y-lts.Need-sub-recurse-2d-x (y-calls t) (y-at t) y.Post
+y-sub-recurse-2d-x t c = pos-of-ne-zero (c .before .before .before .before .before .before .if1 .left)
+
+y-recurse-2d-x-requires : (t : ℕ) → y-lts.Need-recurse-2d-x-requires (y-calls t) (y-at t) y.Post
+y-recurse-2d-x-requires t c κs =
+    let cut = c .before .before .before .before in
+    let s = cut .before .before .before .before .before .before .before in
+    let deeper = cut .before .before .before .before .if1 .left in (
+      falls-by deeper (s .pre .0),
+      (
+        first-sound (s .pre .1 .0) acrossY tt (pos-of-ne-zero (cut .before .before .if2 .left)) _ (cut .cut-block .ensures .0),
+        (
+          rw (length-set (s .args .splits .now)) (first-places (s .pre .1 .1 .0) deeper),
+          rw (cut .cut-block .ensures .1) (filled-room (s .pre .1 .0 .lies) acrossY _ (s .pre .1 .1 .1)),
+        ),
+      ),
+    )
+
+y-sub-recurse-2d-x-2 : (t : ℕ) → y-lts.Need-sub-recurse-2d-x-2 (y-calls t) (y-at t) y.Post
+y-sub-recurse-2d-x-2 t c =
+    let cut = c .before .before .before .before .before .before .before in
+    left-at-most (cut .before .before .before .before .before .before .before .pre .1 .0) acrossY tt (pos-of-ne-zero (cut .before .before .if2 .left)) _ (cut .cut-block .ensures .0)
+
+y-mul-recurse-2d-x-2 : (t : ℕ) → y-lts.Need-mul-recurse-2d-x-2 (y-calls t) (y-at t) y.Post
+y-mul-recurse-2d-x-2 t c = omega (arith, y-node-small t (c .before .before .before .before .before .before .before))
+
+y-add-recurse-2d-x : (t : ℕ) → y-lts.Need-add-recurse-2d-x (y-calls t) (y-at t) y.Post
+y-add-recurse-2d-x t c = omega (arith, y-node-small t (c .before .before .before .before .before .before .before))
+
+y-sub-recurse-2d-x-3 : (t : ℕ) → y-lts.Need-sub-recurse-2d-x-3 (y-calls t) (y-at t) y.Post
+y-sub-recurse-2d-x-3 t c = pos-of-ne-zero (c .before .before .before .before .before .before .before .before .before .before .before .if1 .left)
+
+y-recurse-2d-x-requires-2 : (t : ℕ) → y-lts.Need-recurse-2d-x-requires-2 (y-calls t) (y-at t) y.Post
+y-recurse-2d-x-requires-2 t c κs =
+    let cut = c .before .before .before .before .before .before .before .before .before in
+    let s = cut .before .before .before .before .before .before .before in
+    let deeper = cut .before .before .before .before .if1 .left in
+    let first = c .before .before .before .before .recurse-2d-x in (
+      falls-by deeper (s .pre .0),
+      (
+        second-sound (s .pre .1 .0) acrossY tt (pos-of-ne-zero (cut .before .before .if2 .left)) _ (cut .cut-block .ensures .0),
+        (rw (first .kept .1 .1 .1 .1 .1 .1 .0 ∙ length-set (s .args .splits .now) _ _) (second-places (s .pre .1 .1 .0) deeper), first .ensures .1),
+      ),
+    )
+
+y-same-length : (t : ℕ) → y-lts.Need-same-length (y-calls t) (y-at t) y.Post
+y-same-length t c =
+    let first = c .before .before .before .before .before .before .before in
+    c .before .before .recurse-2d-x2 .kept .1 .1 .1 .1 .1 .1 .0
+    ∙ first .recurse-2d-x .kept .1 .1 .1 .1 .1 .1 .0
+    ∙ length-set (first .before .before .before .before .before .before .before .before .before .before .before .before .args .splits .now) _ _
+
+y-returns-3 : (t : ℕ) → y-lts.Need-returns-3 (y-calls t) (y-at t) y.Post
+y-returns-3 t c =
+    let first = c .before .before .before .before .before .before .before in
+    let cut = first .before .before .before .before .before in
+    let second = c .before .before .recurse-2d-x2 in (
+      tree-cut _ _ _ _ acrossY _ _ (cut .before .before .before .before .before .before .before .pre .1 .0) _ _ _ _ tt (cut .before .before .before .before .if1 .left) (pos-of-ne-zero (cut .before .before .if2 .left))
+          (cut .cut-block .ensures .0) (first .recurse-2d-x .ensures .0) (second .ensures .0),
+      second .ensures .1,
+    )
+
+pub +recurse-2d-x+recurse-2d-y-spec : {M : Type 1} → statement M
++recurse-2d-x+recurse-2d-y-spec =
+    close μ-x μ-y
+    (λ t. x-lts.spec (x-calls t) (x-at t) x.Post
+    (x-returns t)
+    (x-returns-2 t)
+    (x-cut-block-requires t)
+    (x-sub-splits t)
+    (x-mul-splits t)
+    (x-slice-write-splits t)
+    (x-mul-recurse-2d-y t)
+    (x-sub-recurse-2d-y t)
+    (x-recurse-2d-y-requires t)
+    (x-sub-recurse-2d-y-2 t)
+    (x-mul-recurse-2d-y-2 t)
+    (x-add-recurse-2d-y t)
+    (x-sub-recurse-2d-y-3 t)
+    (x-recurse-2d-y-requires-2 t)
+    (x-same-length t)
+    (x-returns-3 t))
+    (λ t. y-lts.spec (y-calls t) (y-at t) y.Post
+    (y-returns t)
+    (y-returns-2 t)
+    (y-cut-block-requires t)
+    (y-sub-splits t)
+    (y-mul-splits t)
+    (y-slice-write-splits t)
+    (y-mul-recurse-2d-x t)
+    (y-sub-recurse-2d-x t)
+    (y-recurse-2d-x-requires t)
+    (y-sub-recurse-2d-x-2 t)
+    (y-mul-recurse-2d-x-2 t)
+    (y-add-recurse-2d-x t)
+    (y-sub-recurse-2d-x-3 t)
+    (y-recurse-2d-x-requires-2 t)
+    (y-same-length t)
+    (y-returns-3 t))
