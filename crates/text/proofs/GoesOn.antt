@@ -1,13 +1,13 @@
 -- Every token lies in its text and goes on from where it was looked for. Assumes nothing.
 use Prim.Native.Nat.{ℕ, zero, suc, _+_, _-_, _≤_, _<_}
 use mathlib.Core.Path.{_≡_, refl, subst, sym}
-use mathlib.Core.Bool.{Bool, true, false, not, _||_, true≢false}
+use mathlib.Core.Bool.{Bool, true, false, not, _||_, true≢false, cond}
 use mathlib.Core.List.{List}
 use native.Mathlib.Omega.{arith}
 use lib.ListN.{getD, length}
 use lib.Dec.{leb}
 use borrow.Author.Tests.{leb-true, leb-false}
-use Rattle.text.specs.Bytes.{pick, isGap, isLineEnd, isHash}
+use Rattle.text.specs.Bytes.{isGap, isLineEnd, isHash}
 use Rattle.text.specs.Tokens.{firstFrom, stopsOf, runEnd, tokenOn, tokenAt}
 use Rattle.text.specs.declared.token.Run.{Run}
 use Rattle.text.specs.declared.token.Run.the-variants as run
@@ -22,7 +22,7 @@ GoesOn at n (LineEnd next) = (at < next) × (next ≤ n)
 GoesOn at n End = Unit {0}
 
 -- one byte of a run, whether it ends there or not
-between : (b : Bool) (at n next : ℕ) → (suc at ≤ next) × (next ≤ suc at + n) → (at ≤ pick b at next) × (pick b at next ≤ at + suc n)
+between : (b : Bool) (at n next : ℕ) → (suc at ≤ next) × (next ≤ suc at + n) → (at ≤ cond b at next) × (cond b at next ≤ at + suc n)
 between true at n next h = (omega arith, omega arith)
 between false at n next h = (omega arith, omega arith)
 
@@ -43,7 +43,7 @@ run-on r t at = from-on (stopsOf r) t at (length t - at)
 
 -- the run of gaps ends before the text's end at a byte that is no gap
 no-gap : (b : Bool) (t : List ℕ) (at n next : ℕ) → isGap (getD t at 0) ≡ b → (next < suc at + n → isGap (getD t next 0) ≡ false)
-    → pick (not b) at next < at + suc n → isGap (getD t (pick (not b) at next) 0) ≡ false
+    → cond (not b) at next < at + suc n → isGap (getD t (cond (not b) at next) 0) ≡ false
 no-gap true t at n next e f l = f (omega arith)
 no-gap false t at n next e f l = e
 
@@ -52,7 +52,7 @@ unfolding firstFrom stopsOf
 ends-no-gap t at zero l = absurd (omega arith)
 ends-no-gap t at (suc n) l = no-gap (isGap (getD t at 0)) t at n _ refl (ends-no-gap t (suc at) n) l
 
-cases : (b : Bool) (at n : ℕ) (x y : Token) → (b ≡ true → GoesOn at n x) → (b ≡ false → GoesOn at n y) → GoesOn at n (pick b x y)
+cases : (b : Bool) (at n : ℕ) (x y : Token) → (b ≡ true → GoesOn at n x) → (b ≡ false → GoesOn at n y) → GoesOn at n (cond b x y)
 cases true at n x y f g = f refl
 cases false at n x y f g = g refl
 

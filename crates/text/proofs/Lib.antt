@@ -1,5 +1,4 @@
-pub mod Laws
-pub mod Small
+pub mod Along
 pub mod Runs
 pub mod GoesOn
 pub mod Once

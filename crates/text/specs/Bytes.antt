@@ -1,16 +1,7 @@
 -- Kinds of bytes. Assumes nothing.
 use Prim.Native.Nat.{ℕ}
-use mathlib.Core.Bool.{Bool, true, false, not, _&&_, _||_}
-use lib.Dec.{eqb, leb, ltb}
-
--- the first where the test passes, else the second
-abbrev pub pick : {A : Type 0} → Bool → A → A → A
-pick true a b = a
-pick false a b = b
-
--- 0 to 9
-abbrev pub isDigit : ℕ → Bool
-isDigit b = not (ltb b 48) && leb b 57
+use mathlib.Core.Bool.{Bool, _||_}
+use lib.Dec.{eqb}
 
 -- a space, a comma, a tab or a carriage return
 abbrev pub isGap : ℕ → Bool

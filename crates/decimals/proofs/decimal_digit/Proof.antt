@@ -1,0 +1,53 @@
+-- Each return rewrites with the tests that led to it.
+use borrow.Author.Tests.{lt-ltb, le-ltb, not-true, not-false}
+use mathlib.Core.Path.{_≡_, sym, _∙_}
+use native.Mathlib.Omega.{arith}
+use Rattle.wholes.proofs.Digits.{digit-range}
+use borrow.Author.Needs.{needs}
+use Rattle.decimals.proofs.decimal_digit.Statement.{statement}
+use Rattle.decimals.proofs.decimal_digit.Tie as tie
+
+is-digit-requires : tie.Need-is-digit-requires
+is-digit-requires c κs = search needs
+
+returns : tie.Need-returns
+returns c = simp (sym (c .before .is-digit .ensures) ∙ not-true _ (c .if1 .taken))
+
+returns-2 : tie.Need-returns-2
+returns-2 c = simp (sym (c .before .before .is-digit .ensures) ∙ not-false _ (c .before .if1 .left), lt-ltb _ _ (c .if2 .taken))
+
+returns-3 : tie.Need-returns-3
+returns-3 c = simp (sym (c .before .before .before .is-digit .ensures) ∙ not-false _ (c .before .before .if1 .left), le-ltb _ _ (c .before .if2 .left), lt-ltb _ _ (c .if3 .taken))
+
+mul-t11 : tie.Need-mul-t11
+mul-t11 c = search needs
+
+sub-t12 : tie.Need-sub-t12
+sub-t12 c = omega (arith, digit-range (c .before .before .before .before .args .b) (sym (c .before .before .before .is-digit .ensures) ∙ not-false _ (c .before .before .if1 .left)))
+
+cast-t13 : tie.Need-cast-t13
+cast-t13 c = search needs
+
+add-t14 : tie.Need-add-t14
+add-t14 c = search needs
+
+add-t15 : tie.Need-add-t15
+add-t15 c = search needs
+
+returns-4 : tie.Need-returns-4
+returns-4 c = simp (sym (c .before .before .before .is-digit .ensures) ∙ not-false _ (c .before .before .if1 .left), le-ltb _ _ (c .before .if2 .left), le-ltb _ _ (c .if3 .left))
+
+pub decimal-digit-spec : {M : Type 1} → statement M
+decimal-digit-spec =
+    tie.close
+    (tie.spec
+    is-digit-requires
+    returns
+    returns-2
+    returns-3
+    mul-t11
+    sub-t12
+    cast-t13
+    add-t14
+    add-t15
+    returns-4)
