@@ -1,17 +1,17 @@
 // halve GRID depth K [splits]: the part of each cell in the shape of the grid, or the cut of each node.
-use crate::fault;
-use crate::fault::SOUND;
-use crate::grid;
-use crate::grid::Grid;
-use crate::out;
-use crate::source;
-use crate::source::Size;
 use crate::usage::usage;
 use crate::words::Asked;
 use crate::words::count;
 use crate::words::is;
 use crate::words::number;
 use crate::words::word;
+use drawing::out;
+use reading::fault;
+use reading::fault::SOUND;
+use reading::grid;
+use reading::grid::Grid;
+use reading::source;
+use reading::source::Size;
 use rules::Halving2;
 use rules::Halving3;
 
@@ -37,7 +37,7 @@ fn side(n: usize) -> u32 {
     1025
 }
 
-// Halves a grid of one plane in 2D and of more in 3D; the number of refusal.
+// Halves a grid of one layer in 2D and of more in 3D; the number of refusal.
 pub(crate) fn halve(
     grid: Grid,
     depth: u32,
@@ -56,7 +56,7 @@ pub(crate) fn halve(
     if ids.len() < cells {
         return rules::REFUSED_LENGTHS;
     }
-    if grid.planes == 1 {
+    if grid.layers == 1 {
         let halving = Halving2 {
             width: side(grid.width),
             height: side(grid.height),
@@ -72,7 +72,7 @@ pub(crate) fn halve(
     let halving = Halving3 {
         width: side(grid.width),
         height: side(grid.height),
-        layers: side(grid.planes),
+        layers: side(grid.layers),
         depth,
     };
     halving::rcb_3d(
@@ -99,14 +99,14 @@ fn behind(buffer: &mut [u8; 4096], at: usize, i: usize, grid: Grid) -> usize {
         return next;
     }
     let line = i / width % height;
-    let plane = i / width / height;
+    let layer = i / width / height;
     if line < height - 1 {
         return next;
     }
-    if grid.planes == 0 {
+    if grid.layers == 0 {
         return next;
     }
-    if plane < grid.planes - 1 {
+    if layer < grid.layers - 1 {
         return out::byte(buffer, next, b'\n');
     }
     next

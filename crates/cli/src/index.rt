@@ -1,16 +1,16 @@
 // index KNOTS [order N]: the index of each knot, and then its line as it stood.
-use crate::fault;
-use crate::fault::SOUND;
-use crate::knots_file;
-use crate::lines::has_word;
-use crate::lines::line_end;
 use crate::options::order;
-use crate::out;
-use crate::source;
-use crate::source::Size;
 use crate::usage::usage;
 use crate::words::Asked;
 use crate::words::word;
+use drawing::out;
+use reading::fault;
+use reading::fault::SOUND;
+use reading::lines::has_word;
+use reading::lines::line_end;
+use reading::source;
+use reading::source::Size;
+use reading::table;
 
 // The indices of the first n points, in 2D or 3D by the number of columns; or the number of refusal.
 fn file_points(
@@ -73,13 +73,13 @@ fn file(
     ys: &mut [f64; 65536],
     zs: &mut [f64; 65536],
 ) {
-    let table = knots_file::read(text, xs, ys, zs);
-    let f = table.fault;
+    let read = table::read(text, xs, ys, zs);
+    let f = read.fault;
     if f.what != SOUND {
         fault::say(errors, path, text, f);
         return;
     }
-    let refusal = file_points(table.columns, table.points, order, xs, ys, zs, indices);
+    let refusal = file_points(read.columns, read.points, order, xs, ys, zs, indices);
     if refusal != 0 {
         fault::refused(errors, path, refusal);
         return;

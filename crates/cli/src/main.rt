@@ -2,19 +2,12 @@
 //
 // A command is a line of words (`words`): those that the program was started with, or those of a line of a transcript. Each
 // command reads its file whole and says what is wrong with it, with file, line and column, before anything is printed. What is
-// right goes out through a buffer (`out`). The large buffers are made here once, and lent as arrays.
+// right goes out through a buffer. The large buffers are made here once, and lent as arrays.
 mod cells;
-mod curve_picture;
-mod fault;
-mod grid;
 mod halve;
 mod index;
-mod knots_file;
-mod lines;
 mod options;
-mod out;
 mod picture;
-mod source;
 mod transcript;
 mod usage;
 mod words;
@@ -50,7 +43,7 @@ pub(crate) fn command(
     }
     if is(line, 0, b"picture") {
         if is(line, 1, b"curve") {
-            curve_picture::command(line, errors);
+            picture::curve(line, errors);
             return;
         }
         picture::command(line, errors, bytes, wide, splits, ids);

@@ -1,5 +1,4 @@
 // The help, and the numbers of refusal.
-use crate::fault::meaning;
 use libc::STDOUT_FILENO;
 
 // Prints the commands.
@@ -45,7 +44,7 @@ pub(crate) fn help() {
     commands(STDOUT_FILENO);
     io::write_all(
         STDOUT_FILENO,
-        b"\nKNOTS: lines of 2 or 3 decimals of up to 15 digits. LIST: whole numbers. GRID: lines of whole weights, planes parted by\n",
+        b"\nKNOTS: lines of 2 or 3 decimals of up to 15 digits. LIST: whole numbers. GRID: lines of whole weights, layers parted by\n",
     );
     io::write_all(
         STDOUT_FILENO,
@@ -54,16 +53,7 @@ pub(crate) fn help() {
     io::write_all(STDOUT_FILENO, b"The order is 12 where none is named.\n");
 }
 
-fn refusal(number: u32) {
-    io::print_decimal(STDOUT_FILENO, number as u64);
-    io::write_all(STDOUT_FILENO, b"  ");
-    meaning(STDOUT_FILENO, number);
-    io::write_all(STDOUT_FILENO, b"\n");
-}
-
-// Prints each number and what it means.
+// Prints each number of refusal and what it means.
 pub(crate) fn refusals() {
-    for number in 0..12u32 {
-        refusal(number);
-    }
+    meanings::numbers(STDOUT_FILENO);
 }

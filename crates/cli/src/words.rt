@@ -83,9 +83,9 @@ pub(crate) fn is(line: &[u8], i: usize, what: &[u8]) -> bool {
 
 // The number that word `i` is.
 pub(crate) fn number(line: &[u8], i: usize) -> Asked {
-    let met = text::whole_of(word(line, i));
+    let met = wholes::whole_of(word(line, i));
     match met {
-        text::Whole::Value(n) => {
+        wholes::Whole::Value(n) => {
             if n <= 4294967295 {
                 return Asked::Is(n as u32);
             }
