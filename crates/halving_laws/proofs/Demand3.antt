@@ -6,12 +6,12 @@ use lib.Dec.{lit≤}
 use lib.ListN.{getD, length}
 use Rattle.rules.specs.Grid.{cells, whole, allWeight}
 use Rattle.rules.specs.Refusals.{topWeight, sliceBy}
-use Rattle.rules.specs.Halving.{edition1, Halving, halving2, halving3, splitsBy, idsBy, halve}
+use Rattle.rules.specs.Halving.{edition1, uncut, Halving, halving2, halving3, splitsBy, idsBy, halve}
 use Rattle.rules.specs.Demands.{Demand3Of, Demand3In2D, Demand3In3D}
 use Rattle.halving_laws.specs.Fair.{FairTree, Structured}
 use Rattle.halving_laws.specs.Accepted.{Accepted}
 use Rattle.halving_laws.proofs.Totals.{total-le}
-use Rattle.halving_laws.proofs.Blocks.{whole-length}
+use Rattle.halving_laws.proofs.Blocks.{whole-length, whole-below}
 use Rattle.halving_laws.proofs.LoHi.{lo-limits, hi-limits}
 use Rattle.halving_laws.proofs.FairCut.{Limits}
 use Rattle.halving_laws.proofs.Ids.{ids-below, parts-add-up}
@@ -40,10 +40,10 @@ module _ (h : Halving) (limits : (t : ℕ) → t < 2 ^ 45 → Limits (h .edition
       (λ t l. limits t (omega (arith, weight-fits r))) axis (whole-length (h .sides)) (splits-follow (h .edition) (h .sides) ws (h .first) (h .depth))
 
   -- each cut lies in its block, and a node is uncut just where its side is 0 or its parent is uncut
-  pub structured : (ws : List ℕ) → Structured (splitsBy h ws) (length (h .sides)) (h .depth) (h .first) 1 (whole (h .sides))
-  structured ws =
+  pub structured : {ws splits ids : List ℕ} → Accepted h ws splits ids → Structured (splitsBy h ws) (length (h .sides)) (h .depth) (h .first) 1 (whole (h .sides))
+  structured {ws} r =
       follows-structured (h .edition) (h .sides) ws (splitsBy h ws) (h .depth) (h .first) 1 (whole (h .sides))
-      (splits-follow (h .edition) (h .sides) ws (h .first) (h .depth))
+      (whole-below uncut (h .sides) (λ a l. omega (arith, r .sides-fit a l))) (splits-follow (h .edition) (h .sides) ws (h .first) (h .depth))
 
   pub demand-3 : Demand3Of h
   unfolding halve sliceBy

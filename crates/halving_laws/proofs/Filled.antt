@@ -10,7 +10,7 @@ use Rattle.rules.specs.Grid.{Block, whole, edge, side, before, after, allWeight
 use Rattle.rules.specs.Halving.{Edition, uncut, nextAxis, cutAt, unlessFlat, fill, splitsOf, cut}
 use Rattle.halving_laws.specs.Nodes.{Room}
 use Rattle.halving_laws.specs.Fair.{FairTree, AllUncut, Structured}
-use Rattle.halving_laws.proofs.Blocks.{before-length, after-length}
+use Rattle.halving_laws.proofs.Blocks.{before-length, after-length, Below, before-below, after-below, end-below}
 use Rattle.halving_laws.proofs.Weights.{weight-at-most-all}
 use Rattle.halving_laws.proofs.Reach.{cut-inside}
 use Rattle.halving_laws.proofs.FairCut.{Limits, cut-is-fair}
@@ -134,18 +134,19 @@ module _ (e : Edition) (sides ws : List ℕ) where
         follows-fair s d (nextAxis (length sides) a) (2 * node + 1) (after a c b) lim (next-lt _ a h) (after-length a c b ∙ q) (f .3),
       ))
 
-  -- and each cut lies in its block
-  pub follows-structured : (s : List ℕ) (d a node : ℕ) (b : Block) → Follows s d a node b → Structured s (length sides) d a node b
+  -- and each cut lies in its block, where no block reaches to the uncut mark
+  pub follows-structured : (s : List ℕ) (d a node : ℕ) (b : Block) → Below uncut b → Follows s d a node b → Structured s (length sides) d a node b
   unfolding Follows Structured cutAt
-  follows-structured s zero a node b f = tt
-  follows-structured s (suc d) a node b (inl f) = inl f
-  follows-structured s (suc d) a node b (inr f) =
+  follows-structured s zero a node b w f = tt
+  follows-structured s (suc d) a node b w (inl f) = inl f
+  follows-structured s (suc d) a node b w (inr f) =
       let c : ℕ = cutAt e sides ws a b in
       let l = cut-inside (λ i. line sides ws b a (edge a b + i)) (side a b) (e .lo (weight sides ws b)) (e .hi (weight sides ws b)) (f .0) in
       inr (rw (f .1) (
         f .0,
+        λ z. omega (arith, end-below uncut a b w (f .0)),
         omega arith,
         omega arith,
-        follows-structured s d (nextAxis (length sides) a) (2 * node) (before a c b) (f .2),
-        follows-structured s d (nextAxis (length sides) a) (2 * node + 1) (after a c b) (f .3),
+        follows-structured s d (nextAxis (length sides) a) (2 * node) (before a c b) (before-below uncut a c b w) (f .2),
+        follows-structured s d (nextAxis (length sides) a) (2 * node + 1) (after a c b) (after-below uncut a c b w) (f .3),
       ))

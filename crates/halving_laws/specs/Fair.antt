@@ -26,11 +26,11 @@ unfoldable pub AllUncut : List ℕ → ℕ → ℕ → Type 0
 AllUncut s zero node = Unit {0}
 AllUncut s (suc d) node = (cut s node ≡ uncut) × AllUncut s d (2 * node) × AllUncut s d (2 * node + 1)
 
--- the uncut mark stands just where a block has side 0 or lies below such a one, and each cut lies in its block
+-- the uncut mark stands just where a block has side 0 or lies below such a one, and each cut is another number and lies in its block
 unfoldable pub Structured : List ℕ → ℕ → ℕ → ℕ → ℕ → Block → Type 0
 Structured s n zero a node b = Unit {0}
 Structured s n (suc d) a node b =
     ((side a b ≡ 0) × AllUncut s (suc d) node)
-    ⊎ ((0 < side a b) × (edge a b ≤ cut s node) × (cut s node < edge a b + side a b)
+    ⊎ ((0 < side a b) × (cut s node ≡ uncut → ⊥) × (edge a b ≤ cut s node) × (cut s node < edge a b + side a b)
     × Structured s n d (nextAxis n a) (2 * node) (before a (cut s node) b)
     × Structured s n d (nextAxis n a) (2 * node + 1) (after a (cut s node) b))
