@@ -32,22 +32,22 @@ fn found(answer: CellAnswer, out: &mut [u64; 69632]) -> Answer {
     }
 }
 
-// cell LOW HIGH ORDER VALUE
-pub(crate) fn cell(n: &[u64], out: &mut [u64; 69632]) -> Answer {
-    if n.len() != 4 {
-        return Answer::Misfit;
-    }
-    let made = axis::make_axis(float(n[0]), float(n[1]), small(n[2]));
-    found(cell_on(made, float(n[3])), out)
-}
-
-// cell_default LOW HIGH VALUE
-pub(crate) fn cell_default(n: &[u64], out: &mut [u64; 69632]) -> Answer {
+// cell LOW HIGH VALUE
+fn cell_default(n: &[u64], out: &mut [u64; 69632]) -> Answer {
     if n.len() != 3 {
         return Answer::Misfit;
     }
     let made = axis::make_axis_default(float(n[0]), float(n[1]));
     found(cell_on(made, float(n[2])), out)
+}
+
+// cell LOW HIGH ORDER VALUE
+pub(crate) fn cell(n: &[u64], out: &mut [u64; 69632]) -> Answer {
+    if n.len() != 4 {
+        return cell_default(n, out);
+    }
+    let made = axis::make_axis(float(n[0]), float(n[1]), small(n[2]));
+    found(cell_on(made, float(n[3])), out)
 }
 
 // cell_flat LOW HIGH ORDER VALUE

@@ -23,18 +23,6 @@ fn short(name: &[u8], n: &[u64], out: &mut [u64; 69632]) -> Answer {
     if same(name, b"decode_3d") {
         return curves::decode_3d(n, out);
     }
-    if same(name, b"encode_2d_default") {
-        return curves::encode_2d_default(n, out);
-    }
-    if same(name, b"encode_3d_default") {
-        return curves::encode_3d_default(n, out);
-    }
-    if same(name, b"decode_2d_default") {
-        return curves::decode_2d_default(n, out);
-    }
-    if same(name, b"decode_3d_default") {
-        return curves::decode_3d_default(n, out);
-    }
     on_axis(name, n, out)
 }
 
@@ -42,9 +30,6 @@ fn short(name: &[u8], n: &[u64], out: &mut [u64; 69632]) -> Answer {
 fn on_axis(name: &[u8], n: &[u64], out: &mut [u64; 69632]) -> Answer {
     if same(name, b"cell") {
         return axes::cell(n, out);
-    }
-    if same(name, b"cell_default") {
-        return axes::cell_default(n, out);
     }
     if same(name, b"cell_flat") {
         return axes::cell_flat(n, out);
@@ -78,16 +63,14 @@ pub(crate) fn call(
         return grids::rcb(4, numbers, ends, parts, splits, ids, out);
     }
     if same(name, b"index_2d") {
-        return points::index_2d(numbers, ends, parts, false, out);
+        if parts == 4 {
+            return points::index(numbers, ends, 3, false, out);
+        }
     }
     if same(name, b"index_3d") {
-        return points::index_3d(numbers, ends, parts, false, out);
-    }
-    if same(name, b"index_2d_default") {
-        return points::index_2d(numbers, ends, parts, true, out);
-    }
-    if same(name, b"index_3d_default") {
-        return points::index_3d(numbers, ends, parts, true, out);
+        if parts == 5 {
+            return points::index(numbers, ends, 4, true, out);
+        }
     }
     Answer::Misfit
 }

@@ -1,4 +1,4 @@
-// Calls of the curve.
+// Calls of the curve; without an order, the call that needs none.
 use crate::answer::Answer;
 use crate::answer::four;
 use crate::answer::one;
@@ -41,66 +41,46 @@ pub(crate) fn deposit(n: &[u64], out: &mut [u64; 69632]) -> Answer {
     one(out, curve::deposit(n[0], n[1]))
 }
 
-// encode_2d X Y ORDER
+// encode_2d X Y [ORDER]
 pub(crate) fn encode_2d(n: &[u64], out: &mut [u64; 69632]) -> Answer {
+    if n.len() == 2 {
+        return coded(curve::encode_2d_default(n[0], n[1]), out);
+    }
     if n.len() != 3 {
         return Answer::Misfit;
     }
     coded(curve::encode_2d(n[0], n[1], small(n[2])), out)
 }
 
-// encode_3d X Y Z ORDER
+// encode_3d X Y Z [ORDER]
 pub(crate) fn encode_3d(n: &[u64], out: &mut [u64; 69632]) -> Answer {
+    if n.len() == 3 {
+        return coded(curve::encode_3d_default(n[0], n[1], n[2]), out);
+    }
     if n.len() != 4 {
         return Answer::Misfit;
     }
     coded(curve::encode_3d(n[0], n[1], n[2], small(n[3])), out)
 }
 
-// decode_2d INDEX ORDER
+// decode_2d INDEX [ORDER]
 pub(crate) fn decode_2d(n: &[u64], out: &mut [u64; 69632]) -> Answer {
+    if n.len() == 1 {
+        return cell_2d(curve::decode_2d_default(n[0]), out);
+    }
     if n.len() != 2 {
         return Answer::Misfit;
     }
     cell_2d(curve::decode_2d(n[0], small(n[1])), out)
 }
 
-// decode_3d INDEX ORDER
+// decode_3d INDEX [ORDER]
 pub(crate) fn decode_3d(n: &[u64], out: &mut [u64; 69632]) -> Answer {
+    if n.len() == 1 {
+        return cell_3d(curve::decode_3d_default(n[0]), out);
+    }
     if n.len() != 2 {
         return Answer::Misfit;
     }
     cell_3d(curve::decode_3d(n[0], small(n[1])), out)
-}
-
-// encode_2d_default X Y
-pub(crate) fn encode_2d_default(n: &[u64], out: &mut [u64; 69632]) -> Answer {
-    if n.len() != 2 {
-        return Answer::Misfit;
-    }
-    coded(curve::encode_2d_default(n[0], n[1]), out)
-}
-
-// encode_3d_default X Y Z
-pub(crate) fn encode_3d_default(n: &[u64], out: &mut [u64; 69632]) -> Answer {
-    if n.len() != 3 {
-        return Answer::Misfit;
-    }
-    coded(curve::encode_3d_default(n[0], n[1], n[2]), out)
-}
-
-// decode_2d_default INDEX
-pub(crate) fn decode_2d_default(n: &[u64], out: &mut [u64; 69632]) -> Answer {
-    if n.len() != 1 {
-        return Answer::Misfit;
-    }
-    cell_2d(curve::decode_2d_default(n[0]), out)
-}
-
-// decode_3d_default INDEX
-pub(crate) fn decode_3d_default(n: &[u64], out: &mut [u64; 69632]) -> Answer {
-    if n.len() != 1 {
-        return Answer::Misfit;
-    }
-    cell_3d(curve::decode_3d_default(n[0]), out)
 }

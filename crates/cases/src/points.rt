@@ -1,5 +1,5 @@
 // Calls that index all points: `order / xs / ys / indices` or `order / xs / ys / zs / indices`, where the last part is what the
-// index slice holds before; the calls without an order have an empty first part.
+// index slice holds before; without an order, the call that needs none.
 use crate::answer::Answer;
 use crate::answer::part;
 use crate::answer::small;
@@ -31,105 +31,16 @@ fn behind(n: &[u64], out: &mut [u64; 69632]) {
     }
 }
 
-// Whether the first part is an order, or empty for a call without one.
-fn ordered(n: &[u64], by_default: bool) -> bool {
-    if by_default {
-        return n.len() == 0;
-    }
-    n.len() == 1
-}
-
-// The order, where there is one.
-fn order_of(n: &[u64]) -> u32 {
-    if n.len() == 0 {
-        return 0;
-    }
-    small(n[0])
-}
-
-// Indexes the first a xs and b ys into the places of an answer behind its first.
-fn file_2d(
-    xs: &[f64],
-    a: usize,
-    ys: &[f64],
-    b: usize,
-    order: u32,
-    by_default: bool,
-    indices: &mut [u64],
-) -> u32 {
-    if xs.len() < a {
-        return NO_ROOM;
-    }
-    if ys.len() < b {
-        return NO_ROOM;
-    }
-    if by_default {
-        return knots::index_2d_default(&xs[..a], &ys[..b], indices);
-    }
-    knots::index_2d(&xs[..a], &ys[..b], order, indices)
-}
-
-// The m places of an answer behind its first hold the indices.
-fn answer_2d(
-    xs: &[f64; 64],
-    a: usize,
-    ys: &[f64; 64],
-    b: usize,
-    order: u32,
-    by_default: bool,
-    out: &mut [u64],
-    m: usize,
-) -> u32 {
-    if 64 < m {
-        return NO_ROOM;
-    }
-    let end = m + 1;
-    if out.len() < end {
-        return NO_ROOM;
-    }
-    file_2d(xs, a, ys, b, order, by_default, &mut out[1..end])
-}
-
-// index_2d and index_2d_default
-pub(crate) fn index_2d(
-    numbers: &[u64],
-    ends: &[usize; 8],
-    parts: usize,
-    by_default: bool,
-    out: &mut [u64; 69632],
-) -> Answer {
-    let first = part(numbers, ends, 0);
-    let held = part(numbers, ends, 3);
-    let m = held.len();
-    if parts != 4 {
-        return Answer::Misfit;
-    }
-    if !ordered(first, by_default) {
-        return Answer::Misfit;
-    }
-    if 64 < m {
-        return Answer::Misfit;
-    }
-    let mut xs = [0.0f64; 64];
-    let mut ys = [0.0f64; 64];
-    let a = floats(part(numbers, ends, 1), &mut xs);
-    let b = floats(part(numbers, ends, 2), &mut ys);
-    behind(held, out);
-    let number = answer_2d(&xs, a, &ys, b, order_of(first), by_default, out, m);
-    out[0] = number as u64;
-    Answer::Numbers(m + 1)
-}
-
-// Indexes the first a xs, b ys and c zs into the places of an answer behind its first.
-fn file_3d(
+// Indexes the first a xs, b ys and, in 3D, c zs, by the order, or by none where there is none.
+fn file(
     xs: &[f64],
     a: usize,
     ys: &[f64],
     b: usize,
     zs: &[f64],
     c: usize,
-    order: u32,
-    by_default: bool,
+    order: &[u64],
+    solid: bool,
     indices: &mut [u64],
 ) -> u32 {
     if xs.len() < a {
@@ -141,22 +52,29 @@ fn file_3d(
     if zs.len() < c {
         return NO_ROOM;
     }
-    if by_default {
-        return knots::index_3d_default(&xs[..a], &ys[..b], &zs[..c], indices);
+    if order.len() == 0 {
+        if solid {
+            return knots::index_3d_default(&xs[..a], &ys[..b], &zs[..c], indices);
+        }
+        return knots::index_2d_default(&xs[..a], &ys[..b], indices);
     }
-    knots::index_3d(&xs[..a], &ys[..b], &zs[..c], order, indices)
+    let named = small(order[0]);
+    if solid {
+        return knots::index_3d(&xs[..a], &ys[..b], &zs[..c], named, indices);
+    }
+    knots::index_2d(&xs[..a], &ys[..b], named, indices)
 }
 
-// The m places of an answer behind its first hold the indices.
-fn answer_3d(
+// The same, into the m places of an answer behind its first.
+fn answer(
     xs: &[f64; 64],
     a: usize,
     ys: &[f64; 64],
     b: usize,
     zs: &[f64; 64],
     c: usize,
-    order: u32,
-    by_default: bool,
+    order: &[u64],
+    solid: bool,
     out: &mut [u64],
     m: usize,
 ) -> u32 {
@@ -167,24 +85,21 @@ fn answer_3d(
     if out.len() < end {
         return NO_ROOM;
     }
-    file_3d(xs, a, ys, b, zs, c, order, by_default, &mut out[1..end])
+    file(xs, a, ys, b, zs, c, order, solid, &mut out[1..end])
 }
 
-// index_3d and index_3d_default
-pub(crate) fn index_3d(
+// index_2d, whose indices are part 3, or index_3d, whose zs are part 3 and indices part 4
+pub(crate) fn index(
     numbers: &[u64],
     ends: &[usize; 8],
-    parts: usize,
-    by_default: bool,
+    last: usize,
+    solid: bool,
     out: &mut [u64; 69632],
 ) -> Answer {
-    let first = part(numbers, ends, 0);
-    let held = part(numbers, ends, 4);
+    let order = part(numbers, ends, 0);
+    let held = part(numbers, ends, last);
     let m = held.len();
-    if parts != 5 {
-        return Answer::Misfit;
-    }
-    if !ordered(first, by_default) {
+    if 1 < order.len() {
         return Answer::Misfit;
     }
     if 64 < m {
@@ -197,8 +112,7 @@ pub(crate) fn index_3d(
     let b = floats(part(numbers, ends, 2), &mut ys);
     let c = floats(part(numbers, ends, 3), &mut zs);
     behind(held, out);
-    let order = order_of(first);
-    let number = answer_3d(&xs, a, &ys, b, &zs, c, order, by_default, out, m);
+    let number = answer(&xs, a, &ys, b, &zs, c, order, solid, out, m);
     out[0] = number as u64;
     Answer::Numbers(m + 1)
 }
