@@ -1,15 +1,15 @@
 // cells LIST [2d|3d] [order N]: the cell of each index of a list.
+use crate::drawing::out;
 use crate::options::order;
+use crate::reading::fault;
+use crate::reading::fault::SOUND;
+use crate::reading::list;
+use crate::reading::source;
+use crate::reading::source::Size;
 use crate::usage::usage;
 use crate::words::Asked;
 use crate::words::is;
 use crate::words::word;
-use drawing::out;
-use reading::fault;
-use reading::fault::SOUND;
-use reading::list;
-use reading::source;
-use reading::source::Size;
 use rules::Cell2;
 use rules::Cell3;
 

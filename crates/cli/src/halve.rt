@@ -1,17 +1,17 @@
 // halve GRID depth K [splits]: the part of each cell in the shape of the grid, or the cut of each node.
+use crate::drawing::out;
+use crate::reading::fault;
+use crate::reading::fault::SOUND;
+use crate::reading::grid;
+use crate::reading::grid::Grid;
+use crate::reading::source;
+use crate::reading::source::Size;
 use crate::usage::usage;
 use crate::words::Asked;
 use crate::words::count;
 use crate::words::is;
 use crate::words::number;
 use crate::words::word;
-use drawing::out;
-use reading::fault;
-use reading::fault::SOUND;
-use reading::grid;
-use reading::grid::Grid;
-use reading::source;
-use reading::source::Size;
 use rules::Halving2;
 use rules::Halving3;
 

@@ -1,16 +1,16 @@
 // index KNOTS [order N]: the index of each knot, and then its line as it stood.
+use crate::drawing::out;
 use crate::options::order;
+use crate::reading::fault;
+use crate::reading::fault::SOUND;
+use crate::reading::lines::has_word;
+use crate::reading::lines::line_end;
+use crate::reading::source;
+use crate::reading::source::Size;
+use crate::reading::table;
 use crate::usage::usage;
 use crate::words::Asked;
 use crate::words::word;
-use drawing::out;
-use reading::fault;
-use reading::fault::SOUND;
-use reading::lines::has_word;
-use reading::lines::line_end;
-use reading::source;
-use reading::source::Size;
-use reading::table;
 
 // The indices of the first n points, in 2D or 3D by the number of columns; or the number of refusal.
 fn file_points(

@@ -4,10 +4,13 @@
 // command reads its file whole and says what is wrong with it, with file, line and column, before anything is printed. What is
 // right goes out through a buffer. The large buffers are made here once, and lent as arrays.
 mod cells;
+mod drawing;
 mod halve;
 mod index;
+mod meanings;
 mod options;
 mod picture;
+mod reading;
 mod transcript;
 mod usage;
 mod words;

@@ -1,14 +1,14 @@
 // picture GRID depth K: a picture of a halved grid. picture curve order N: a picture of the curve.
+use crate::drawing::Shape;
+use crate::drawing::draw_curve;
+use crate::drawing::draw_grid;
 use crate::halve::Halved;
 use crate::halve::halve_file;
 use crate::options::named;
+use crate::reading::fault;
 use crate::usage::usage;
 use crate::words::Asked;
 use crate::words::word;
-use drawing::Shape;
-use drawing::draw_curve;
-use drawing::draw_grid;
-use reading::fault;
 
 // Draws the curve of the order that the words name.
 pub(crate) fn curve(line: &[u8], errors: i32) {

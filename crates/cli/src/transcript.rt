@@ -1,11 +1,11 @@
 // transcript COMMANDS: carries out each line of a file as a command, behind a line that repeats it, with errors among the output.
 use crate::command_line;
+use crate::reading::fault::of;
+use crate::reading::lines::has_word;
+use crate::reading::lines::line_end;
 use crate::words::append;
 use libc::STDERR_FILENO;
 use libc::STDOUT_FILENO;
-use reading::fault::of;
-use reading::lines::has_word;
-use reading::lines::line_end;
 
 // Repeats a line and carries it out.
 fn run_line(

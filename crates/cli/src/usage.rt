@@ -55,5 +55,5 @@ pub(crate) fn help() {
 
 // Prints each number of refusal and what it means.
 pub(crate) fn refusals() {
-    meanings::numbers(STDOUT_FILENO);
+    crate::meanings::numbers(STDOUT_FILENO);
 }
