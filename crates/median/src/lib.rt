@@ -1,19 +1,19 @@
 // Where a row of lines is cut, inside: `cuts` calls it.
 //
-//   lo, hi   of a block's weight, in f64: the least and the most that its left part should weigh, within one part in a
-//            hundred of the half
+//   lo, hi   of a block's weight: the least and the most that its left part should weigh, within one part in a hundred of the
+//            half. The rules work them out in f64; here they are the whole parts of exact fractions, which is the same
+//            (lo-is-floor, hi-is-floor)
 //   median   how many lines lie before the cut, and what they weigh, for any lo and hi
 //
-// The cut is the rule's and lies before the last line (CutIs); lo and hi keep to their limits (lo-limits, hi-limits) and are
-// whole parts of fractions of the weight (lo-is-floor, hi-is-floor).
+// The cut is the rule's and lies before the last line (CutIs); lo and hi keep to their limits (lo-limits, hi-limits).
 ghost use mathlib.Core.Path.{_≡_};
 ghost use Prim.Native.Nat.{_<_, _≤_};
 ghost use Rattle.rules.specs.Refusals.{topSide};
 ghost use Rattle.rules.specs.Halving.{loOf, hiOf};
 ghost use Rattle.median.specs.Median.{CutIs, LinesLight, lineAt};
 
-// How far from the half a part may be.
-const TOLERANCE: f64 = 0.01;
+// What is added to a number of 200ths before it is divided: nothing, so that its fraction is dropped.
+const ROUND_DOWN: u64 = 0;
 
 // How many lines lie before the cut, and what they weigh.
 pub struct WeightedMedian {
@@ -26,8 +26,7 @@ pub fn min_part_weight(total: u64) -> u64
     requires { ⌜ total < 35184372088832 ⌝ }
     ensures { λ r. ⌜ r ≡ loOf total ⌝ }
 {
-    let ideal = std::num::nearest_u64_to_f64(total) / 2.0;
-    std::num::truncating_f64_to_u64(ideal * (1.0 - TOLERANCE))
+    (99 * total + ROUND_DOWN) / 200
 }
 
 // hi of a block of weight `total`: the most that its left part should weigh.
@@ -35,8 +34,7 @@ pub fn max_part_weight(total: u64) -> u64
     requires { ⌜ total < 35184372088832 ⌝ }
     ensures { λ r. ⌜ r ≡ hiOf total ⌝ }
 {
-    let ideal = std::num::nearest_u64_to_f64(total) / 2.0;
-    std::num::truncating_f64_to_u64(ideal * (1.0 + TOLERANCE))
+    (101 * total + ROUND_DOWN) / 200
 }
 
 // The cut of the first `m` lines, where the lines before it should weigh `lo` to `hi`.

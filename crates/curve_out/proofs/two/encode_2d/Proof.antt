@@ -1,20 +1,15 @@
 -- `encode_2d` hands out the number and the value that the curve's answer stands for. Assumes nothing.
-use mathlib.Core.Path.{_≡_, _∙_, ap, sym}
+use mathlib.Core.Path.{_∙_, sym}
 use borrow.Author.Needs.{needs}
-use Rattle.rules.specs.Refusals.{readCoded}
-use Rattle.rules.specs.declared.Coded.{Coded}
+use Rattle.curve_out.proofs.Apart.{coded-apart}
 use Rattle.curve_out.proofs.two.encode_2d.Statement.{statement}
 use Rattle.curve_out.proofs.two.encode_2d.Tie as tie
 
--- one answer, one number and one value
-apart : {a b : Coded} → a ≡ b → (readCoded a .number ≡ readCoded b .number) × (readCoded a .value ≡ readCoded b .value)
-apart e = (ap (λ (a : Coded). readCoded a .number) e, ap (λ (a : Coded). readCoded a .value) e)
-
 answered : tie.Need-returns
-answered c = apart (sym (c .before .answer .given .1) ∙ c .before .before .before .encode-2d .ensures)
+answered c = coded-apart (sym (c .before .answer .given .1) ∙ c .before .before .before .encode-2d .ensures)
 
 refused : tie.Need-returns-2
-refused c = apart (sym (c .before .answer2 .given .1) ∙ c .before .before .before .encode-2d .ensures)
+refused c = coded-apart (sym (c .before .answer2 .given .1) ∙ c .before .before .before .encode-2d .ensures)
 
 pub encode-2d-spec : {M : Type 1} → statement M
 encode-2d-spec = tie.close (tie.spec (λ c κs. search needs) (λ c. search needs) (λ c. search needs) answered refused)
