@@ -1,0 +1,79 @@
+-- Each token lies in the text and goes on.
+use Rattle.text.specs.declared.token.Token.the-variants.{Word, Comment, LineEnd}
+use Rattle.text.proofs.GoesOn.{GoesOn, token-goes-on}
+use lib.ListN.{length}
+use native.Mathlib.Omega.{arith}
+use mathlib.Core.Path.{sym, _∙_, subst}
+use borrow.Author.Needs.{needs}
+use Rattle.grids_cli.proofs.grid.step.Statement.{statement}
+use Rattle.grids_cli.proofs.grid.step.Tie as tie
+
+-- where a token's parts stand, in each case
+word-in : (c : tie.After-token)
+    → GoesOn (c .before .before .before .before .args .at) (length (c .before .before .before .before .args .text .now)) (Word (c .token .given .0 .0) (c .token .given .0 .1 .0))
+word-in c = subst (GoesOn _ _) (sym (c .before .before .next-token .ensures) ∙ c .token .given .1) (token-goes-on _ (c .before .before .before .before .args .at))
+
+comment-in : (c : tie.After-token2)
+    → GoesOn (c .before .before .before .before .args .at) (length (c .before .before .before .before .args .text .now)) (Comment (c .token2 .given .0 .0))
+comment-in c = subst (GoesOn _ _) (sym (c .before .before .next-token .ensures) ∙ c .token2 .given .1) (token-goes-on _ (c .before .before .before .before .args .at))
+
+line-in : (c : tie.After-token3)
+    → GoesOn (c .before .before .before .before .args .at) (length (c .before .before .before .before .args .text .now)) (LineEnd (c .token3 .given .0 .0))
+line-in c = subst (GoesOn _ _) (sym (c .before .before .next-token .ensures) ∙ c .token3 .given .1) (token-goes-on _ (c .before .before .before .before .args .at))
+
+next-token-requires : tie.Need-next-token-requires
+next-token-requires c κs = search needs
+
+enum-known-token : tie.Need-enum-known-token
+enum-known-token c = search needs
+
+with-word-requires : tie.Need-with-word-requires
+with-word-requires c κs = let w = word-in (c .before .before) in (omega arith, w .2)
+
+enum-known-token-2 : tie.Need-enum-known-token-2
+enum-known-token-2 c = search needs
+
+with-comment-requires : tie.Need-with-comment-requires
+with-comment-requires c κs = search needs
+
+enum-known-token-3 : tie.Need-enum-known-token-3
+enum-known-token-3 c = search needs
+
+sub-with-line : tie.Need-sub-with-line
+sub-with-line c = omega (arith, line-in (c .before))
+
+with-line-requires : tie.Need-with-line-requires
+with-line-requires c κs = search needs
+
+enum-told : tie.Need-enum-told
+enum-told c = search needs
+
+returns : tie.Need-returns
+returns c = omega (arith, word-in (c .before .before .before))
+
+returns-2 : tie.Need-returns-2
+returns-2 c = omega (arith, comment-in (c .before .before))
+
+returns-3 : tie.Need-returns-3
+returns-3 c = omega (arith, line-in (c .before .before))
+
+returns-4 : tie.Need-returns-4
+returns-4 c = search needs
+
+pub step-spec : {M : Type 1} → statement M
+step-spec =
+    tie.close
+    (tie.spec
+    next-token-requires
+    enum-known-token
+    with-word-requires
+    enum-known-token-2
+    with-comment-requires
+    enum-known-token-3
+    sub-with-line
+    with-line-requires
+    enum-told
+    returns
+    returns-2
+    returns-3
+    returns-4)

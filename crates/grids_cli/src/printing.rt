@@ -1,0 +1,74 @@
+// The parts of a halved grid in its shape, and the cuts of its nodes, a line each.
+use crate::grid::Shape;
+use console::out;
+
+// What stands behind the id of cell i: a comma, a line's end, or a line's end and a blank line.
+fn behind(buffer: &mut [u8; 4096], at: usize, i: usize, shape: Shape) -> usize {
+    let width = shape.width;
+    let height = shape.height;
+    if width == 0 {
+        return at;
+    }
+    let along = i % width;
+    if along < width - 1 {
+        return out::byte(buffer, at, b',');
+    }
+    let next = out::byte(buffer, at, b'\n');
+    if height == 0 {
+        return next;
+    }
+    let line = i / width % height;
+    let layer = i / width / height;
+    if line < height - 1 {
+        return next;
+    }
+    if shape.layers == 0 {
+        return next;
+    }
+    if layer < shape.layers - 1 {
+        return out::byte(buffer, next, b'\n');
+    }
+    next
+}
+
+// Puts the id of cell i, and what stands behind it.
+fn put_id(buffer: &mut [u8; 4096], at: usize, id: u32, i: usize, shape: Shape) -> usize {
+    let next = out::number(buffer, at, id as u64);
+    behind(buffer, next, i, shape)
+}
+
+// Prints the ids of all cells.
+pub(crate) fn print_ids(ids: &[u32; 65536], shape: Shape) {
+    let cells = shape.cells;
+    let mut buffer = [0u8; 4096];
+    let mut put: usize = 0;
+    for i in 0..65536usize {
+        if i < cells {
+            put = put_id(&mut buffer, put, ids[i], i, shape);
+        }
+    }
+    out::flush(&buffer, put);
+}
+
+// Puts a node and its cut on a line.
+fn put_split(buffer: &mut [u8; 4096], at: usize, node: u64, cut: u32) -> usize {
+    let a = out::number(buffer, at, node);
+    let b = out::byte(buffer, a, b',');
+    if cut == rules::UNCUT {
+        return out::bytes(buffer, b, b"uncut\n");
+    }
+    let c = out::number(buffer, b, cut as u64);
+    out::byte(buffer, c, b'\n')
+}
+
+// Prints the cut of each node.
+pub(crate) fn print_splits(splits: &[u32; 4095], nodes: usize) {
+    let mut buffer = [0u8; 4096];
+    let mut put: usize = 0;
+    for i in 0..4095usize {
+        if i < nodes {
+            put = put_split(&mut buffer, put, i as u64 + 1, splits[i]);
+        }
+    }
+    out::flush(&buffer, put);
+}
