@@ -6,17 +6,8 @@ use borrow.Author.Needs.{needs}
 use Rattle.grids_cli.proofs.halve.nodes_of.Statement.{statement}
 use Rattle.grids_cli.proofs.halve.nodes_of.Tie as tie
 
-returns : tie.Need-returns
-returns c = search needs
-
-shl-result : tie.Need-shl-result
-shl-result c = search needs
-
 sub-result : tie.Need-sub-result
 sub-result c = rw (shl-exact 1 (c .before .args .depth) 64 (lit< tt) (omega arith)) (omega (arith, pow-pos (c .before .args .depth)))
 
-returns-2 : tie.Need-returns-2
-returns-2 c = search needs
-
 pub nodes-of-spec : {M : Type 1} → statement M
-nodes-of-spec = tie.close (tie.spec returns shl-result sub-result returns-2)
+nodes-of-spec = tie.close (tie.spec (λ c. search needs) (λ c. search needs) sub-result (λ c. search needs))

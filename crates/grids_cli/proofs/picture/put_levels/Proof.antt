@@ -10,25 +10,5 @@ Inv-loop buffer₀ at depth grid ids next₀ below₀ buffer next below = below 
 abbrev μ-loop : tie.MeasureT-loop
 μ-loop buffer₀ at depth grid ids next₀ below₀ buffer next below = 12 - below
 
-loop-holds : tie.Need-loop-holds Inv-loop μ-loop
-loop-holds c = search needs
-
-put-level-requires : tie.Need-put-level-requires Inv-loop μ-loop
-put-level-requires c κs = search needs
-
-add-below : tie.Need-add-below Inv-loop μ-loop
-add-below c = search needs
-
-loop-less : tie.Need-loop-less Inv-loop μ-loop
-loop-less c = search needs
-
-loop-again : tie.Need-loop-again Inv-loop μ-loop
-loop-again c = search needs
-
-returns : tie.Need-returns Inv-loop μ-loop
-returns c = search needs
-
 pub put-levels-spec : {M : Type 1} → statement M
-put-levels-spec =
-    tie.close
-    (tie.spec Inv-loop μ-loop loop-holds put-level-requires add-below loop-less loop-again returns)
+put-levels-spec = tie.close (tie.spec Inv-loop μ-loop (λ c. search needs) (λ c κs. search needs) (λ c. search needs) (λ c. search needs) (λ c. search needs) (λ c. search needs))
