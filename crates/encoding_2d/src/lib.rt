@@ -9,7 +9,7 @@ ghost use mathlib.Core.Path.{_≡_};
 ghost use Prim.Native.Nat.{_+_, _*_, _≤_, _<_};
 ghost use lib.Bits.{bitAnd};
 ghost use Rattle.rules.specs.Curve.{level, encode, groupEntry, plane, encode2, defaultOrder};
-ghost use Rattle.curve_table.specs.Ruled.{Ruled};
+ghost use Rattle.curve_laws.specs.Ruled.{Ruled};
 use rules::Coded;
 use rules::DEFAULT_ORDER;
 use rules::REFUSED_COORDINATE;
