@@ -14,3 +14,4 @@ pub mod Spread
 pub mod Interleave
 pub mod Shifts
 pub mod DecodeTurn
+pub mod Tabulated

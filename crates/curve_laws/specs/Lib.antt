@@ -1,1 +1,2 @@
 pub mod Undoes
+pub mod Ruled

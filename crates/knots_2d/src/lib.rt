@@ -46,7 +46,7 @@ fn write_2d(
     while i < xs.len() {
         let x = cell_on(xaxis, xs[i]);
         let y = cell_on(yaxis, ys[i]);
-        let coded = curve_2d::encode_2d_with(&table, x, y, order);
+        let coded = encoding_2d::encode_2d_with(&table, x, y, order);
         match coded {
             Coded::Index(index) => {
                 indices[i] = index;

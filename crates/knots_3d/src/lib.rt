@@ -49,7 +49,7 @@ fn write_3d(
         let x = cell_on(xaxis, xs[i]);
         let y = cell_on(yaxis, ys[i]);
         let z = cell_on(zaxis, zs[i]);
-        let coded = curve_3d::encode_3d(x, y, z, order);
+        let coded = encoding_3d::encode_3d(x, y, z, order);
         match coded {
             Coded::Index(index) => {
                 indices[i] = index;

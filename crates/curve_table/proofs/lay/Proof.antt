@@ -1,54 +1,47 @@
--- `lay` meets its contract: at every turn the entries so far keep the rule. Assumes nothing.
+-- `lay` meets its contract: at every turn the quarters so far keep the rule. Assumes nothing.
 use Prim.Native.Nat.{ℕ, _+_, _-_, _*_, _≤_, _<_}
-use mathlib.Core.Path.{_≡_, _∙_, subst, sym}
+use mathlib.Core.Path.{_≡_, subst}
 use mathlib.Core.List.{List}
 use native.Mathlib.Omega.{arith}
-use native.Mathlib.Decide.{ℕ-discrete}
-use lib.ListN.{length, getD, set, length-set}
-use lib.Seq.{getD-set-same, getD-set-other}
-use denote.Ref.{now}
-use Rattle.rules.specs.Curve.{groupEntry, plane}
-use Rattle.curve_table.specs.Ruled.{RuledBelow}
+use lib.ListN.{length}
+use Rattle.curve_laws.specs.Ruled.{RuledBelow}
 use Rattle.curve_table.proofs.lay.Statement.{statement}
 use Rattle.curve_table.proofs.lay.Tie as tie
 
 abbrev Inv-loop : tie.InvT-loop
-Inv-loop table₀ state entries z₀ table z = (length table ≡ 16384) × (z ≤ 4096) × RuledBelow (4096 * state + z) table
+Inv-loop table₀ state quarters q₀ table q = (length table ≡ 16384) × (q ≤ 4) × RuledBelow (1024 * (4 * state + q)) table
 
 abbrev μ-loop : tie.MeasureT-loop
-μ-loop table₀ state entries z₀ table z = 4096 - z
+μ-loop table₀ state quarters q₀ table q = 4 - q
 
--- one entry more, by the rule
-one-more : (n : ℕ) (t : List ℕ) (x : ℕ) → n < length t → RuledBelow n t → x ≡ groupEntry plane 6 n → RuledBelow (n + 1) (set t n x)
-one-more n t x h r e =
-    record {
-      at = λ i l. elim (ℕ-discrete i n) [
-        | yes p ↦ subst (λ (k : ℕ). getD (set t n x) k 0 ≡ groupEntry plane 6 k) (sym p) (getD-set-same t n x 0 h ∙ e)
-        | no ne ↦ getD-set-other t n i x 0 ne ∙ r .at i (omega arith)
-      ];
-    }
+same-below : {m n : ℕ} (t : List ℕ) → m ≡ n → RuledBelow m t → RuledBelow n t
+same-below t e = subst (λ (n : ℕ). RuledBelow n t) e
 
 loop-holds : tie.Need-loop-holds Inv-loop μ-loop
 loop-holds c =
-    let e : 4096 * c .args .state ≡ 4096 * c .args .state + 0 = omega arith in
-    (c .pre .1 .0, omega arith, subst (λ (n : ℕ). RuledBelow n (now (c .args .table))) e (c .pre .1 .1))
+    let e : 4096 * c .args .state ≡ 1024 * (4 * c .args .state + 0) = omega arith in
+    (c .pre .1 .0, omega arith, same-below _ e (c .pre .1 .1))
+
+lay-quarter-requires : tie.Need-lay-quarter-requires Inv-loop μ-loop
+lay-quarter-requires c κs =
+    let test = c .before .before in
+    let at = test .before .loop in
+    ((omega arith, test .before .before .pre .0 .1 .at (at .q) (test .loop-test .taken)), (at .inv .0, at .inv .2))
 
 loop-again : tie.Need-loop-again Inv-loop μ-loop
 loop-again c =
-    let at = c .before .before .loop in
-    let a = c .before .before .before .args in
-    let n : ℕ = 4096 * a .state + at .z in
-    let x : ℕ = getD (now (a .entries)) (at .z) 0 in
-    let e : n + 1 ≡ 4096 * a .state + (at .z + 1) = omega arith in
-    let r = one-more n (at .table) x (omega arith) (at .inv .2) (c .before .before .before .pre .0 .1 .at (at .z) (omega arith)) in
-    (length-set (at .table) n x ∙ at .inv .0, omega arith, subst (λ (k : ℕ). RuledBelow k (set (at .table) n x)) e r)
+    let test = c .before .before .before in
+    let at = test .before .loop in
+    let state : ℕ = test .before .before .args .state in
+    let e : 1024 * (4 * state + at .q) + 1024 ≡ 1024 * (4 * state + (at .q + 1)) = omega arith in
+    (c .lay-quarter .ensures .0, omega arith, same-below _ e (c .lay-quarter .ensures .1))
 
 returns : tie.Need-returns Inv-loop μ-loop
 returns c =
     let at = c .before .loop in
     let state : ℕ = c .before .before .args .state in
-    let e : 4096 * state + at .z ≡ 4096 * state + 4096 = omega arith in
-    (at .inv .0, subst (λ (n : ℕ). RuledBelow n (at .table)) e (at .inv .2))
+    let e : 1024 * (4 * state + at .q) ≡ 4096 * state + 4096 = omega arith in
+    (at .inv .0, same-below _ e (at .inv .2))
 
 pub lay-spec : {M : Type 1} → statement M
 lay-spec =
@@ -61,8 +54,7 @@ lay-spec =
     (λ c. omega arith)
     (λ c. omega arith)
     (λ c. omega arith)
-    (λ c. omega arith)
-    (λ c. omega arith)
+    lay-quarter-requires
     (λ c. omega arith)
     (λ c. omega arith)
     loop-again
