@@ -8,7 +8,7 @@ use lib.Dec.{lit≤}
 use lib.ListN.{length}
 use borrow.Author.Needs.{needs}
 use borrow.Author.Tests.{lt-ltb, le-ltb}
-use Rattle.rules.specs.Refusals.{topSide, topCells, sidesUnfit, gridLengthsOff, gridTests}
+use Rattle.rules.specs.Refusals.{topSide, topCells, topDepth, sidesUnfit, gridLengthsOff, gridTests}
 use Rattle.halving_laws.proofs.Accepted.{sides-fit}
 use Rattle.blocks.specs.Blocks.{threeAxes, sidesOf}
 use Rattle.halving_tests.proofs.ThreeSides.{cells-are}
@@ -25,7 +25,7 @@ returns c = rw (sym (c .before .sides-unfit .ensures) ∙ c .if1 .taken)
 
 returns-2 : tie.Need-returns-2
 unfolding gridTests
-returns-2 c = rw (sym (c .before .before .sides-unfit .ensures) ∙ c .before .if1 .left, lt-ltb _ _ (c .if2 .taken))
+returns-2 c = rw (sym (c .before .before .sides-unfit .ensures) ∙ c .before .if1 .left, lt-ltb topDepth _ (c .if2 .taken))
 
 -- the sides fit
 fit : (c : tie.Else2) → sidesUnfit (sidesOf threeAxes (start c .args .g)) ≡ false
@@ -56,21 +56,21 @@ unfolding gridTests
 returns-3 c =
     let lengths = c .before in
     let depth = lengths .before .before .before in
-    rw (fit depth, le-ltb _ _ (depth .if2 .left), sym (off lengths) ∙ c .if3 .taken)
+    rw (fit depth, le-ltb topDepth _ (depth .if2 .left), sym (off lengths) ∙ c .if3 .taken)
 
 returns-4 : tie.Need-returns-4
 unfolding gridTests
 returns-4 c =
     let long = c .before .before in
     let depth = long .before .before .before .before in
-    rw (fit depth, le-ltb _ _ (depth .if2 .left), sym (off (long .before)) ∙ long .if3 .left, sym (c .before .weight-over .ensures) ∙ c .if4 .taken)
+    rw (fit depth, le-ltb topDepth _ (depth .if2 .left), sym (off (long .before)) ∙ long .if3 .left, sym (c .before .weight-over .ensures) ∙ c .if4 .taken)
 
 returns-5 : tie.Need-returns-5
 unfolding gridTests
 returns-5 c =
     let long = c .before .before in
     let depth = long .before .before .before .before in
-    rw (fit depth, le-ltb _ _ (depth .if2 .left), sym (off (long .before)) ∙ long .if3 .left, sym (c .before .weight-over .ensures) ∙ c .if4 .left)
+    rw (fit depth, le-ltb topDepth _ (depth .if2 .left), sym (off (long .before)) ∙ long .if3 .left, sym (c .before .weight-over .ensures) ∙ c .if4 .left)
 
 pub refusal-spec : {M : Type 1} → statement M
 refusal-spec =
