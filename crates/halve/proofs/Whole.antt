@@ -5,31 +5,44 @@ use native.Mathlib.Nat.{zero-add, mul-one}
 use mathlib.Core.Path.{_≡_, refl, ap, sym, _∙_}
 use mathlib.Core.List.{List}
 use lib.Dec.{lit≤}
-use lib.ListN.{length}
+use lib.ListN.{length, replicate}
 use lib.Pow.{pow-mono}
 use Rattle.rules.specs.Grid.{cells, whole, weight}
 use Rattle.rules.specs.Refusals.{topSide}
+use Rattle.rules.specs.Halving.{uncut, splitsOf, splitsBy}
 use Rattle.halving_laws.specs.Nodes.{Places}
 use Rattle.halving_laws.specs.Accepted.{Accepted}
 use Rattle.halving_laws.proofs.Heap.{room-root}
 use Rattle.halving_laws.proofs.Weights.{weight-at-most-all}
 use Rattle.halving_laws.proofs.Demand3.{weight-fits}
-use Rattle.blocks.specs.Blocks.{Shape, twoAxes, threeAxes, sidesOf, asBlock, wholeOf, Layered, OneLayer}
+use Rattle.blocks.specs.Blocks.{Shape, twoAxes, threeAxes, acrossY, sidesOf, asBlock, wholeOf, Layered, OneLayer}
 use Rattle.cuts.specs.Cuts.{solid, Readable, Lies, Sound}
+use Rattle.cuts.specs.Trees.{tree}
 use Rattle.halve.specs.Calls.{halvingOf}
 use Rattle.blocks.specs.declared.Grid.{Grid}
+use Rattle.blocks.specs.declared.SubGrid.{SubGrid}
 use Rattle.cuts.proofs.Solids.{weight-is-solid}
 
-pub block-whole : (s : Shape) (g : Grid) → asBlock s (wholeOf g) ≡ whole (sidesOf s g)
+block-whole : (s : Shape) (g : Grid) → asBlock s (wholeOf g) ≡ whole (sidesOf s g)
 unfolding whole
 block-whole twoAxes g = simp zero-add
 block-whole threeAxes g = simp zero-add
+
+-- the tree below the whole grid, written where no node was cut, is the rule's splits
+pub whole-tree : (s : Shape) (g : Grid) (k n : ℕ) (ws splits : List ℕ) (b : SubGrid) → b ≡ wholeOf g → splits ≡ replicate n uncut → n ≡ 2 ^ k - 1
+    → tree s g ws k acrossY b 1 splits ≡ splitsBy (halvingOf s g k) ws
+unfolding tree splitsOf
+whole-tree s g k n ws splits b e f l = rw (e, f, l, block-whole s g)
 
 -- the cells of the grid, its layers counted
 cells-are : (s : Shape) (g : Grid) → Layered s g → cells (sidesOf s g) ≡ g .width * (g .height * g .layers)
 unfolding cells
 cells-are twoAxes g y = rw y
 cells-are threeAxes g y = ap (λ (n : ℕ). g .width * (g .height * n)) (mul-one (g .layers))
+
+-- the rows of one layer
+pub one-layer-rows : (g : Grid) → Layered twoAxes g → g .width * (g .height * g .layers) ≡ g .width * g .height
+one-layer-rows g y = rw (y, mul-one (g .height))
 
 whole-layer : (s : Shape) (g : Grid) → Layered s g → OneLayer s (wholeOf g)
 whole-layer twoAxes g y = (refl, y)

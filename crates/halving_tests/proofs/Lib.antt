@@ -1,2 +1,2 @@
-pub mod InOrder
+pub mod ThreeSides
 pub mod Once

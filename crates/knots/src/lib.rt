@@ -3,9 +3,10 @@
 // A call tests, each over all points and axes before the next: the order, that there are points, the lengths of the slices, the values,
 // the axes. Only then does it write, one index for each point; after a refusal the index slice is as it was.
 //
-//   points     the values and the axis of points
-//   knots_2d   2D
-//   knots_3d   3D
+//   points                   the values and the axis of points
+//   knots_tests              the tests that need no axis
+//   indices_2d, indices_3d   the indices of points on axes that take them
+//   knots_2d, knots_3d       the calls
 //
 // A caller may rely on these, of axis_laws: accepts (the axis of points accepts each of them) and knot-below (a point's cell lies below
 // 2^order), so that no point is refused once the tests are passed. Each promise has one answer (`index-2d-only` and so on, proofs/Once.antt

@@ -9,23 +9,47 @@ use lib.Ieee.{Float}
 use Rattle.rules.specs.Sums.{any}
 use Rattle.rules.specs.Refusals.{top2, valueUnfit, readAxis}
 use Rattle.rules.specs.Axis.{makeAxis, extentOf}
-use Rattle.rules.specs.Knots.{thinOver}
+use Rattle.rules.specs.Knots.{thinOver, axisOver, knot}
 use Rattle.rules.specs.declared.Axis.{Axis}
 use Rattle.rules.specs.declared.AxisAnswer.{AxisAnswer}
 use Rattle.rules.specs.declared.AxisAnswer.the-variants as made
-use Rattle.axis_laws.proofs.AxisAccepts.{over-refused, over-made}
-use Rattle.points.specs.Over.{Over}
+use Rattle.axis_laws.proofs.AxisAccepts.{accepts, knot-below, over-refused, over-made}
+use Rattle.points.specs.Takes.{Takes}
 
-module _ (xs : List Float) (n order : ℕ) (m : AxisAnswer) (all : length xs ≡ n) (some : 0 < n) (fit : any valueUnfit xs ≡ false) (few : order ≤ top2)
-    (is : m ≡ makeAxis (extentOf xs .low) (extentOf xs .high) order) where
-  thin : (k : ℕ) → m ≡ made.Refused k → (thinOver xs ≡ true) × (k ≡ 7)
-  thin k e = over-refused xs order (omega arith) fit k few (sym is ∙ e)
+-- an axis that was made over n points
+pub record Over (xs : List Float) (n order : ℕ) (a : Axis) : Type 0 where
+  pub takes : Takes xs n order a
+  pub thick : thinOver xs ≡ false
+  pub made : a ≡ axisOver xs order
 
-  pub is-thin : (k : ℕ) → m ≡ made.Refused k → thinOver xs ≡ true
-  is-thin k e = thin k e .0
+-- the axis of n fit points was asked for, and m is the answer
+pub record Asked (xs : List Float) (n order : ℕ) (m : AxisAnswer) : Type 0 where
+  pub all : length xs ≡ n
+  pub some : 0 < n
+  pub fit : any valueUnfit xs ≡ false
+  pub few : order ≤ top2
+  pub is : m ≡ makeAxis (extentOf xs .low) (extentOf xs .high) order
 
-  pub thin-number : (k r : ℕ) → m ≡ made.Refused k → r ≡ readAxis m .number → r ≡ 7
-  thin-number k r e f = f ∙ ap (λ (a : AxisAnswer). readAxis a .number) e ∙ thin k e .1
+module _ {xs : List Float} {n order : ℕ} {m : AxisAnswer} (asked : Asked xs n order m) where
+  some-points : 0 < length xs
+  some-points = omega (arith, asked .all, asked .some)
+
+  pub thin : (k r : ℕ) → m ≡ made.Refused k → r ≡ readAxis m .number → (thinOver xs ≡ true) × (r ≡ 7)
+  thin k r e f =
+      let t = over-refused xs order some-points (asked .fit) k (asked .few) (sym (asked .is) ∙ e) in
+      (t .0, f ∙ ap (λ (a : AxisAnswer). readAxis a .number) e ∙ t .1)
 
   pub over : (a : Axis) → m ≡ made.Made a → Over xs n order a
-  over a e = let o = over-made xs order (omega arith) fit a few (sym is ∙ e) in record { all = all; fit = fit; thick = o .0; made = o .1 }
+  unfolding knot
+  over a e =
+      let o = over-made xs order some-points (asked .fit) a (asked .few) (sym (asked .is) ∙ e) in
+      let all = asked .all in
+      record {
+        takes = record {
+          all = all;
+          accepts = λ i h. rw (o .1) (accepts xs order some-points (asked .fit) (asked .few) (o .0) i (omega arith));
+          below = λ i h. rw (o .1) (knot-below xs order some-points (asked .fit) (asked .few) (o .0) i (omega arith));
+        };
+        thick = o .0;
+        made = o .1;
+      }

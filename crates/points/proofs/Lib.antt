@@ -1,5 +1,4 @@
 pub mod Points
 pub mod Written
-pub mod Filed
 pub mod Axes
 pub mod Once

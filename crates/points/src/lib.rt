@@ -1,8 +1,7 @@
 // What the points of a call have on one axis: whether some value is unfit, and the axis from their lowest to their highest.
 //
-// A caller may rely on `over` and `is-thin` (proofs/Axes.antt): the axis of fit points is made over them (specs/Over.antt) unless it is thin;
-// and on `point-accepted` and `point-below` (proofs/Points.antt): an axis that was made over points accepts each of them, and its cell lies
-// below 2^order.
+// A caller may rely on `thin` and `over` (proofs/Axes.antt): the axis of fit points is refused where it is thin, and else made over them, and
+// takes them (specs/Takes.antt): it accepts each of them, and its cell lies below 2^order.
 ghost use mathlib.Core.Path.{_≡_};
 ghost use Rattle.rules.specs.Sums.{any};
 ghost use Rattle.rules.specs.Refusals.{valueUnfit};

@@ -7,34 +7,35 @@ use mathlib.Core.Bool.{false}
 use lib.Dec.{lit≤}
 use lib.ListN.{length}
 use borrow.Author.Needs.{needs}
-use Rattle.rules.specs.Refusals.{topSide, topCells, sidesUnfit, gridLengthsOff}
+use borrow.Author.Tests.{lt-ltb, le-ltb}
+use Rattle.rules.specs.Refusals.{topSide, topCells, topDepth, sidesUnfit, gridLengthsOff, gridTests}
 use Rattle.halving_laws.proofs.Accepted.{sides-fit}
 use Rattle.blocks.specs.Blocks.{threeAxes, sidesOf}
-use Rattle.halving_tests.proofs.InOrder.{cells-are, refused-sides, refused-depth, refused-lengths, refused-weight, not-refused}
+use Rattle.halving_tests.proofs.ThreeSides.{cells-are}
 use Rattle.halving_tests.proofs.refusal.Statement.{statement}
 use Rattle.halving_tests.proofs.refusal.Tie as tie
 
+-- where the call began, from where the depth was tested
+abbrev start : tie.Else2 → tie.Start
+start c = c .before .before .before .before
+
 returns : tie.Need-returns
-returns c = refused-sides _ _ _ _ _ (sym (c .before .sides-unfit .ensures) ∙ c .if1 .taken)
+unfolding gridTests
+returns c = rw (sym (c .before .sides-unfit .ensures) ∙ c .if1 .taken)
 
 returns-2 : tie.Need-returns-2
-returns-2 c = refused-depth _ _ _ _ _ (sym (c .before .before .sides-unfit .ensures) ∙ c .before .if1 .left) (c .if2 .taken)
+unfolding gridTests
+returns-2 c = rw (sym (c .before .before .sides-unfit .ensures) ∙ c .before .if1 .left, lt-ltb topDepth _ (c .if2 .taken))
 
 -- the sides fit
-fit : (c : tie.Else2) → sidesUnfit (sidesOf threeAxes (c .before .before .before .before .args .g)) ≡ false
+fit : (c : tie.Else2) → sidesUnfit (sidesOf threeAxes (start c .args .g)) ≡ false
 fit c = sym (c .before .before .sides-unfit .ensures) ∙ c .before .if1 .left
 
-small : (c : tie.Else2) → let g = c .before .before .before .before .args .g in (g .height * g .layers ≤ topSide * topSide) × (g .width * (g .height * g .layers) ≤ topCells)
+small : (c : tie.Else2) → let g = start c .args .g in (g .height * g .layers ≤ topSide * topSide) × (g .width * (g .height * g .layers) ≤ topCells)
 small c =
-    let g = c .before .before .before .before .args .g in
+    let g = start c .args .g in
     let f = sides-fit (sidesOf threeAxes g) (fit c) in
     (mul-le-mul (f .0 1 (lit≤ tt) .1) (f .0 2 (lit≤ tt) .1), rw (cells-are (g .width) (g .height) (g .layers)) at (f .1))
-
--- the test of the lengths is the definition's
-off : (c : tie.After-lengths-off) → let a = c .before .before .before .before .before .before .before .args in c .lengths-off .result ≡ gridLengthsOff (sidesOf threeAxes (a .g)) (a .depth) (length (a .weights .now)) (a .ids) (a .splits)
-off c =
-    let g = c .before .before .before .before .before .before .before .args .g in
-    c .lengths-off .ensures ∙ rw (cells-are (g .width) (g .height) (g .layers))
 
 mul-cells : tie.Need-mul-cells
 mul-cells c = omega (arith, small (c .before))
@@ -42,20 +43,34 @@ mul-cells c = omega (arith, small (c .before))
 mul-cells-2 : tie.Need-mul-cells-2
 mul-cells-2 c = omega (arith, small (c .before .before))
 
+-- the test of the lengths is the definition's
+off : (c : tie.After-lengths-off)
+    → let a = start (c .before .before .before) .args in
+    c .lengths-off .result ≡ gridLengthsOff (sidesOf threeAxes (a .g)) (a .depth) (length (a .weights .now)) (a .ids) (a .splits)
+off c =
+    let g = start (c .before .before .before) .args .g in
+    rw (cells-are (g .width) (g .height) (g .layers)) (c .lengths-off .ensures)
+
 returns-3 : tie.Need-returns-3
+unfolding gridTests
 returns-3 c =
-    let e = c .before .before .before .before in
-    refused-lengths _ _ _ _ _ (fit e) (e .if2 .left) (sym (off (c .before)) ∙ c .if3 .taken)
+    let lengths = c .before in
+    let depth = lengths .before .before .before in
+    rw (fit depth, le-ltb topDepth _ (depth .if2 .left), sym (off lengths) ∙ c .if3 .taken)
 
 returns-4 : tie.Need-returns-4
+unfolding gridTests
 returns-4 c =
-    let e = c .before .before .before .before .before .before in
-    refused-weight _ _ _ _ _ (fit e) (e .if2 .left) (sym (off (c .before .before .before)) ∙ c .before .before .if3 .left) (sym (c .before .weight-over .ensures) ∙ c .if4 .taken)
+    let long = c .before .before in
+    let depth = long .before .before .before .before in
+    rw (fit depth, le-ltb topDepth _ (depth .if2 .left), sym (off (long .before)) ∙ long .if3 .left, sym (c .before .weight-over .ensures) ∙ c .if4 .taken)
 
 returns-5 : tie.Need-returns-5
+unfolding gridTests
 returns-5 c =
-    let e = c .before .before .before .before .before .before in
-    not-refused _ _ _ _ _ (fit e) (e .if2 .left) (sym (off (c .before .before .before)) ∙ c .before .before .if3 .left) (sym (c .before .weight-over .ensures) ∙ c .if4 .left)
+    let long = c .before .before in
+    let depth = long .before .before .before .before in
+    rw (fit depth, le-ltb topDepth _ (depth .if2 .left), sym (off (long .before)) ∙ long .if3 .left, sym (c .before .weight-over .ensures) ∙ c .if4 .left)
 
 pub refusal-spec : {M : Type 1} → statement M
 refusal-spec =

@@ -1,7 +1,7 @@
 -- `refusal_2d` meets its contract: a grid in 2D is refused as its one layer is.
 use mathlib.Core.Path.{_∙_}
 use borrow.Author.Needs.{needs}
-use Rattle.halving_tests.proofs.InOrder.{one-layer}
+use Rattle.halving_tests.proofs.ThreeSides.{one-layer}
 use Rattle.halving_tests.proofs.refusal_2d.Statement.{statement}
 use Rattle.halving_tests.proofs.refusal_2d.Tie as tie
 

@@ -4,31 +4,40 @@ use native.Mathlib.Omega.{arith}
 use mathlib.Core.Path.{_≡_, sym, _∙_}
 use mathlib.Core.Bool.{false}
 use borrow.Author.Needs.{needs}
+use Rattle.rules.specs.Sums.{any}
 use Rattle.rules.specs.Refusals.{topSide, sideUnfit}
-use Rattle.halving_tests.proofs.InOrder.{width-unfit, height-unfit, layers-unfit, all-sides-fit, products-fit}
+use Rattle.halving_tests.proofs.ThreeSides.{cells-are, products-fit}
 use Rattle.halving_tests.proofs.sides_unfit.Statement.{statement}
 use Rattle.halving_tests.proofs.sides_unfit.Tie as tie
 
 returns : tie.Need-returns
-returns c = width-unfit _ _ _ (sym (c .before .side-unfit .ensures) ∙ c .if1 .taken)
+unfolding any
+returns c = rw (sym (c .before .side-unfit .ensures) ∙ c .if1 .taken)
 
 returns-2 : tie.Need-returns-2
-returns-2 c = height-unfit _ _ _ (sym (c .before .before .before .side-unfit .ensures) ∙ c .before .before .if1 .left) (sym (c .before .side-unfit2 .ensures) ∙ c .if2 .taken)
+unfolding any
+returns-2 c =
+    let width = c .before .before in
+    rw (sym (width .before .side-unfit .ensures) ∙ width .if1 .left, sym (c .before .side-unfit2 .ensures) ∙ c .if2 .taken)
 
 returns-3 : tie.Need-returns-3
+unfolding any
 returns-3 c =
-    layers-unfit _ _ _ (sym (c .before .before .before .before .before .side-unfit .ensures) ∙ c .before .before .before .before .if1 .left)
-    (sym (c .before .before .before .side-unfit2 .ensures) ∙ c .before .before .if2 .left) (sym (c .before .side-unfit3 .ensures) ∙ c .if3 .taken)
+    let height = c .before .before in
+    let width = height .before .before in
+    rw (sym (width .before .side-unfit .ensures) ∙ width .if1 .left, sym (height .before .side-unfit2 .ensures) ∙ height .if2 .left, sym (c .before .side-unfit3 .ensures) ∙ c .if3 .taken)
 
 -- where no side is unfit
-each : (c : tie.Else3) → let g = c .before .before .before .before .before .before .args .g in (sideUnfit (g .width) ≡ false) × (sideUnfit (g .height) ≡ false) × (sideUnfit (g .layers) ≡ false)
-each c = (
-  sym (c .before .before .before .before .before .side-unfit .ensures) ∙ c .before .before .before .before .if1 .left,
-  sym (c .before .before .before .side-unfit2 .ensures) ∙ c .before .before .if2 .left,
-  sym (c .before .side-unfit3 .ensures) ∙ c .if3 .left,
-)
+abbrev start : tie.Else3 → tie.Start
+start c = c .before .before .before .before .before .before
 
-small : (c : tie.Else3) → let g = c .before .before .before .before .before .before .args .g in (g .height * g .layers ≤ topSide * topSide) × (g .width * (g .height * g .layers) ≤ topSide * (topSide * topSide))
+each : (c : tie.Else3) → let g = start c .args .g in (sideUnfit (g .width) ≡ false) × (sideUnfit (g .height) ≡ false) × (sideUnfit (g .layers) ≡ false)
+each c =
+    let height = c .before .before in
+    let width = height .before .before in
+    (sym (width .before .side-unfit .ensures) ∙ width .if1 .left, sym (height .before .side-unfit2 .ensures) ∙ height .if2 .left, sym (c .before .side-unfit3 .ensures) ∙ c .if3 .left)
+
+small : (c : tie.Else3) → let g = start c .args .g in (g .height * g .layers ≤ topSide * topSide) × (g .width * (g .height * g .layers) ≤ topSide * (topSide * topSide))
 small c = let e = each c in products-fit _ _ _ (e .0) (e .1) (e .2)
 
 mul-result : tie.Need-mul-result
@@ -38,7 +47,8 @@ mul-result-2 : tie.Need-mul-result-2
 mul-result-2 c = omega (arith, small (c .before .before))
 
 returns-4 : tie.Need-returns-4
-returns-4 c = let e = each (c .before .before) in all-sides-fit _ _ _ (e .0) (e .1) (e .2)
+unfolding any
+returns-4 c = let e = each (c .before .before) in rw (e .0, e .1, e .2, cells-are _ _ _)
 
 pub sides-unfit-spec : {M : Type 1} → statement M
 sides-unfit-spec =

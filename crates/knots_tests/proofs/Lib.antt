@@ -1,0 +1,4 @@
+pub mod Earlier
+pub mod Passed
+pub mod Filed
+pub mod Once
