@@ -49,7 +49,9 @@ y-calls t = (cut-block-reads.Asked, cut-block-reads.Learnt, x-below t, x.Post)
 -- Across x.
 
 x-node-small : (t : ℕ) (c : x-lts.After-cut-block (x-calls t) (x-at t) x.Post) → c .before .before .before .before .before .before .before .args .node < 2 ^ topDepth
-x-node-small t c = small-node _ _ _ (c .before .before .before .before .if1 .left) (c .before .before .before .before .before .before .before .pre .1 .1 .0)
+x-node-small t c =
+    let entered = c .before .before .before .before .before .before .before in
+    small-node _ _ _ (c .before .before .before .before .if1 .left) (entered .pre .1 .1 .0)
 
 x-returns : (t : ℕ) → x-lts.Need-returns (x-calls t) (x-at t) x.Post
 x-returns t c = (tree-end _ _ _ _ _ _ _ _ (c .if1 .taken), c .before .before .before .pre .1 .1 .1)
@@ -63,19 +65,26 @@ x-cut-block-requires t c κs =
     (p .0 .lies, ((pos-of-ne-zero (c .before .if2 .left), p .0 .few), p .1 .1))
 
 x-sub-splits : (t : ℕ) → x-lts.Need-sub-splits (x-calls t) (x-at t) x.Post
-x-sub-splits t c = c .before .before .before .before .before .before .before .before .before .pre .1 .1 .0 .room .first
+x-sub-splits t c =
+    let entered = c .before .before .before .before .before .before .before .before .before in
+    entered .pre .1 .1 .0 .room .first
 
 x-mul-splits : (t : ℕ) → x-lts.Need-mul-splits (x-calls t) (x-at t) x.Post
 x-mul-splits t c = omega (arith, x-node-small t (c .before .before))
 
 x-slice-write-splits : (t : ℕ) → x-lts.Need-slice-write-splits (x-calls t) (x-at t) x.Post
-x-slice-write-splits t c = place-here _ _ _ (c .before .before .before .before .before .before .if1 .left) (c .before .before .before .before .before .before .before .before .before .pre .1 .1 .0)
+x-slice-write-splits t c =
+    let tested = c .before .before .before .before .before .before in
+    let entered = c .before .before .before .before .before .before .before .before .before in
+    place-here _ _ _ (tested .if1 .left) (entered .pre .1 .1 .0)
 
 x-mul-recurse-2d-y : (t : ℕ) → x-lts.Need-mul-recurse-2d-y (x-calls t) (x-at t) x.Post
 x-mul-recurse-2d-y t c = omega (arith, x-node-small t (c .before .before))
 
 x-sub-recurse-2d-y : (t : ℕ) → x-lts.Need-sub-recurse-2d-y (x-calls t) (x-at t) x.Post
-x-sub-recurse-2d-y t c = pos-of-ne-zero (c .before .before .before .before .before .before .if1 .left)
+x-sub-recurse-2d-y t c =
+    let tested = c .before .before .before .before .before .before in
+    pos-of-ne-zero (tested .if1 .left)
 
 x-recurse-2d-y-requires : (t : ℕ) → x-lts.Need-recurse-2d-y-requires (x-calls t) (x-at t) x.Post
 x-recurse-2d-y-requires t c κs =
@@ -104,7 +113,9 @@ x-add-recurse-2d-y : (t : ℕ) → x-lts.Need-add-recurse-2d-y (x-calls t) (x-at
 x-add-recurse-2d-y t c = omega (arith, x-node-small t (c .before .before .before .before .before .before .before))
 
 x-sub-recurse-2d-y-3 : (t : ℕ) → x-lts.Need-sub-recurse-2d-y-3 (x-calls t) (x-at t) x.Post
-x-sub-recurse-2d-y-3 t c = pos-of-ne-zero (c .before .before .before .before .before .before .before .before .before .before .before .if1 .left)
+x-sub-recurse-2d-y-3 t c =
+    let tested = c .before .before .before .before .before .before .before .before .before .before .before in
+    pos-of-ne-zero (tested .if1 .left)
 
 x-recurse-2d-y-requires-2 : (t : ℕ) → x-lts.Need-recurse-2d-y-requires-2 (x-calls t) (x-at t) x.Post
 x-recurse-2d-y-requires-2 t c κs =
@@ -139,7 +150,9 @@ x-returns-3 t c =
 -- Across y.
 
 y-node-small : (t : ℕ) (c : y-lts.After-cut-block (y-calls t) (y-at t) y.Post) → c .before .before .before .before .before .before .before .args .node < 2 ^ topDepth
-y-node-small t c = small-node _ _ _ (c .before .before .before .before .if1 .left) (c .before .before .before .before .before .before .before .pre .1 .1 .0)
+y-node-small t c =
+    let entered = c .before .before .before .before .before .before .before in
+    small-node _ _ _ (c .before .before .before .before .if1 .left) (entered .pre .1 .1 .0)
 
 y-returns : (t : ℕ) → y-lts.Need-returns (y-calls t) (y-at t) y.Post
 y-returns t c = (tree-end _ _ _ _ _ _ _ _ (c .if1 .taken), c .before .before .before .pre .1 .1 .1)
@@ -153,19 +166,26 @@ y-cut-block-requires t c κs =
     (p .0 .lies, ((pos-of-ne-zero (c .before .if2 .left), p .0 .few), p .1 .1))
 
 y-sub-splits : (t : ℕ) → y-lts.Need-sub-splits (y-calls t) (y-at t) y.Post
-y-sub-splits t c = c .before .before .before .before .before .before .before .before .before .pre .1 .1 .0 .room .first
+y-sub-splits t c =
+    let entered = c .before .before .before .before .before .before .before .before .before in
+    entered .pre .1 .1 .0 .room .first
 
 y-mul-splits : (t : ℕ) → y-lts.Need-mul-splits (y-calls t) (y-at t) y.Post
 y-mul-splits t c = omega (arith, y-node-small t (c .before .before))
 
 y-slice-write-splits : (t : ℕ) → y-lts.Need-slice-write-splits (y-calls t) (y-at t) y.Post
-y-slice-write-splits t c = place-here _ _ _ (c .before .before .before .before .before .before .if1 .left) (c .before .before .before .before .before .before .before .before .before .pre .1 .1 .0)
+y-slice-write-splits t c =
+    let tested = c .before .before .before .before .before .before in
+    let entered = c .before .before .before .before .before .before .before .before .before in
+    place-here _ _ _ (tested .if1 .left) (entered .pre .1 .1 .0)
 
 y-mul-recurse-2d-x : (t : ℕ) → y-lts.Need-mul-recurse-2d-x (y-calls t) (y-at t) y.Post
 y-mul-recurse-2d-x t c = omega (arith, y-node-small t (c .before .before))
 
 y-sub-recurse-2d-x : (t : ℕ) → y-lts.Need-sub-recurse-2d-x (y-calls t) (y-at t) y.Post
-y-sub-recurse-2d-x t c = pos-of-ne-zero (c .before .before .before .before .before .before .if1 .left)
+y-sub-recurse-2d-x t c =
+    let tested = c .before .before .before .before .before .before in
+    pos-of-ne-zero (tested .if1 .left)
 
 y-recurse-2d-x-requires : (t : ℕ) → y-lts.Need-recurse-2d-x-requires (y-calls t) (y-at t) y.Post
 y-recurse-2d-x-requires t c κs =
@@ -194,7 +214,9 @@ y-add-recurse-2d-x : (t : ℕ) → y-lts.Need-add-recurse-2d-x (y-calls t) (y-at
 y-add-recurse-2d-x t c = omega (arith, y-node-small t (c .before .before .before .before .before .before .before))
 
 y-sub-recurse-2d-x-3 : (t : ℕ) → y-lts.Need-sub-recurse-2d-x-3 (y-calls t) (y-at t) y.Post
-y-sub-recurse-2d-x-3 t c = pos-of-ne-zero (c .before .before .before .before .before .before .before .before .before .before .before .if1 .left)
+y-sub-recurse-2d-x-3 t c =
+    let tested = c .before .before .before .before .before .before .before .before .before .before .before in
+    pos-of-ne-zero (tested .if1 .left)
 
 y-recurse-2d-x-requires-2 : (t : ℕ) → y-lts.Need-recurse-2d-x-requires-2 (y-calls t) (y-at t) y.Post
 y-recurse-2d-x-requires-2 t c κs =

@@ -19,18 +19,6 @@ loop-holds : tie.Need-loop-holds Inv-loop μ-loop
 unfolding wholeTo
 loop-holds c = (omega arith, refl)
 
-shared-slice-read-step : tie.Need-shared-slice-read-step Inv-loop μ-loop
-shared-slice-read-step c = search needs
-
-step-requires : tie.Need-step-requires Inv-loop μ-loop
-step-requires c κs = search needs
-
-add-i : tie.Need-add-i Inv-loop μ-loop
-add-i c = search needs
-
-loop-less : tie.Need-loop-less Inv-loop μ-loop
-loop-less c = search needs
-
 loop-again : tie.Need-loop-again Inv-loop μ-loop
 unfolding wholeTo
 loop-again c = (omega arith, rw add-one (c .step .ensures ∙ rw (c .before .before .before .loop .inv .1)))
@@ -40,15 +28,4 @@ unfolding wholeOf
 returns c = let e : c .before .loop .i ≡ length (c .before .before .before .args .word .now) = omega arith in rw (c .before .loop .inv .1, e)
 
 pub whole-of-spec : {M : Type 1} → statement M
-whole-of-spec =
-    tie.close
-    (tie.spec
-    Inv-loop
-    μ-loop
-    loop-holds
-    shared-slice-read-step
-    step-requires
-    add-i
-    loop-less
-    loop-again
-    returns)
+whole-of-spec = tie.close (tie.spec Inv-loop μ-loop loop-holds (λ c. search needs) (λ c κs. search needs) (λ c. search needs) (λ c. search needs) loop-again returns)

@@ -7,34 +7,19 @@ use borrow.Author.Needs.{needs}
 use Rattle.text.proofs.token.next_token.Statement.{statement}
 use Rattle.text.proofs.token.next_token.Tie as tie
 
-run-end-requires : tie.Need-run-end-requires
-run-end-requires c κs = search needs
-
 returns : tie.Need-returns
 unfolding tokenAt
 returns c = rw (← c .before .run-end .ensures) (simp (le-leb _ _ (c .if1 .taken)))
 
-shared-slice-read-b : tie.Need-shared-slice-read-b
-shared-slice-read-b c = search needs
-
-add-t10 : tie.Need-add-t10
-add-t10 c = search needs
-
 returns-2 : tie.Need-returns-2
 unfolding tokenAt
 returns-2 c = rw (← c .before .before .before .run-end .ensures) (simp (lt-leb _ _ (c .before .before .if1 .left), eq-eqb _ _ (c .if2 .taken)))
-
-run-end-requires-2 : tie.Need-run-end-requires-2
-run-end-requires-2 c κs = search needs
 
 returns-3 : tie.Need-returns-3
 unfolding tokenAt
 returns-3 c =
     rw (← c .before .before .before .before .before .run-end .ensures)
     (simp (lt-leb _ _ (c .before .before .before .before .if1 .left), ne-eqb _ _ (c .before .before .if2 .left), eq-eqb _ _ (c .before .if3 .taken)) (ap Comment (c .run-end2 .ensures)))
-
-run-end-requires-3 : tie.Need-run-end-requires-3
-run-end-requires-3 c κs = search needs
 
 returns-4 : tie.Need-returns-4
 unfolding tokenAt
@@ -44,15 +29,4 @@ returns-4 c =
     (ap (Word (c .before .before .before .before .before .run-end .result)) (c .run-end3 .ensures)))
 
 pub next-token-spec : {M : Type 1} → statement M
-next-token-spec =
-    tie.close
-    (tie.spec
-    run-end-requires
-    returns
-    shared-slice-read-b
-    add-t10
-    returns-2
-    run-end-requires-2
-    returns-3
-    run-end-requires-3
-    returns-4)
+next-token-spec = tie.close (tie.spec (λ c κs. search needs) returns (λ c. search needs) (λ c. search needs) returns-2 (λ c κs. search needs) returns-3 (λ c κs. search needs) returns-4)

@@ -18,23 +18,11 @@ abbrev μ-loop : tie.MeasureT-loop
 loop-holds : tie.Need-loop-holds Inv-loop μ-loop
 loop-holds c = refl
 
-shared-slice-read-stops : tie.Need-shared-slice-read-stops Inv-loop μ-loop
-shared-slice-read-stops c = search needs
-
-stops-requires : tie.Need-stops-requires Inv-loop μ-loop
-stops-requires c κs = search needs
-
 returns : tie.Need-returns Inv-loop μ-loop
 returns c =
     let p = c .before .before .before .before in
     let a = p .before .before .args in
     ends-here (a .run) (a .text .now) (p .loop .i) (omega arith) (sym (c .before .stops .ensures) ∙ c .if1 .taken) ∙ p .loop .inv
-
-add-i : tie.Need-add-i Inv-loop μ-loop
-add-i c = search needs
-
-loop-less : tie.Need-loop-less Inv-loop μ-loop
-loop-less c = search needs
 
 loop-again : tie.Need-loop-again Inv-loop μ-loop
 loop-again c =
@@ -46,16 +34,4 @@ returns-2 : tie.Need-returns-2 Inv-loop μ-loop
 returns-2 c = let a = c .before .before .before .args in ends-there (a .run) (a .text .now) (c .before .loop .i) (omega arith) ∙ c .before .loop .inv
 
 pub run-end-spec : {M : Type 1} → statement M
-run-end-spec =
-    tie.close
-    (tie.spec
-    Inv-loop
-    μ-loop
-    loop-holds
-    shared-slice-read-stops
-    stops-requires
-    returns
-    add-i
-    loop-less
-    loop-again
-    returns-2)
+run-end-spec = tie.close (tie.spec Inv-loop μ-loop loop-holds (λ c. search needs) (λ c κs. search needs) returns (λ c. search needs) (λ c. search needs) loop-again returns-2)

@@ -8,21 +8,6 @@ use borrow.Author.Needs.{needs}
 use Rattle.text.proofs.token.stops.Statement.{statement}
 use Rattle.text.proofs.token.stops.Tie as tie
 
-enum-told : tie.Need-enum-told
-enum-told c = search needs
-
-is-gap-requires : tie.Need-is-gap-requires
-is-gap-requires c κs = search needs
-
-enum-told-2 : tie.Need-enum-told-2
-enum-told-2 c = search needs
-
-enum-told-3 : tie.Need-enum-told-3
-enum-told-3 c = search needs
-
-is-gap-requires-2 : tie.Need-is-gap-requires-2
-is-gap-requires-2 c κs = search needs
-
 returns : tie.Need-returns
 unfolding stopsOf
 returns c = rw (c .before .before .enum-told3 .given .1) (simp (sym (c .before .is-gap2 .ensures) ∙ c .if1 .taken))
@@ -44,16 +29,4 @@ unfolding stopsOf
 returns-5 c = rw (c .before .before .before .enum-told3 .given .1, sym (c .before .before .is-gap2 .ensures) ∙ c .before .if1 .left, ne-eqb _ _ (c .if2 .left))
 
 pub stops-spec : {M : Type 1} → statement M
-stops-spec =
-    tie.close
-    (tie.spec
-    enum-told
-    is-gap-requires
-    enum-told-2
-    enum-told-3
-    is-gap-requires-2
-    returns
-    returns-2
-    returns-3
-    returns-4
-    returns-5)
+stops-spec = tie.close (tie.spec (λ c. search needs) (λ c κs. search needs) (λ c. search needs) (λ c. search needs) (λ c κs. search needs) returns returns-2 returns-3 returns-4 returns-5)
