@@ -1,87 +1,60 @@
 // Calls of an axis: a cell of a value, on an axis that is made first or on a record that is made up, and the low and high of points.
-use crate::answer::Answer;
-use crate::answer::small;
-use crate::answer::two;
+// A float comes as its bits.
+use crate::answers::small;
+use crate::answers::two;
 use crate::floats::bits;
 use crate::floats::float;
 use rules::Axis;
 use rules::AxisAnswer;
 use rules::CellAnswer;
 
-// The refusal of an axis, handed on for the cell that was asked for.
-fn handed_on(answer: AxisAnswer) -> CellAnswer {
-    match answer {
-        AxisAnswer::Made(_) => CellAnswer::Refused(0),
-        AxisAnswer::Refused(number) => CellAnswer::Refused(number),
-    }
-}
-
-// The cell of a value on an axis, if it was made.
-fn cell_on(answer: AxisAnswer, value: f64) -> CellAnswer {
-    let AxisAnswer::Made(axis) = answer else {
-        return handed_on(answer);
-    };
-    axis::cell(axis, value)
-}
-
 // Answers with the number and the cell.
-fn found(answer: CellAnswer, out: &mut [u64; 69632]) -> Answer {
+fn found(answer: CellAnswer) -> [u64; 5] {
     match answer {
-        CellAnswer::Cell(cell) => two(out, 0, cell),
-        CellAnswer::Refused(number) => two(out, number as u64, 0),
+        CellAnswer::Cell(cell) => two(0, cell),
+        CellAnswer::Refused(number) => two(number as u64, 0),
     }
 }
 
-// cell LOW HIGH VALUE
-fn cell_default(n: &[u64], out: &mut [u64; 69632]) -> Answer {
-    if n.len() != 3 {
-        return Answer::Misfit;
+// The cell of a value on an axis, or the refusal of the axis.
+fn cell_on(answer: AxisAnswer, value: u64) -> [u64; 5] {
+    match answer {
+        AxisAnswer::Made(axis) => found(axis::cell(axis, float(value))),
+        AxisAnswer::Refused(number) => two(number as u64, 0),
     }
-    let made = axis::make_axis_default(float(n[0]), float(n[1]));
-    found(cell_on(made, float(n[2])), out)
 }
 
-// cell LOW HIGH ORDER VALUE
-pub(crate) fn cell(n: &[u64], out: &mut [u64; 69632]) -> Answer {
-    if n.len() != 4 {
-        return cell_default(n, out);
-    }
-    let made = axis::make_axis(float(n[0]), float(n[1]), small(n[2]));
-    found(cell_on(made, float(n[3])), out)
+pub(crate) fn cell_default(low: u64, high: u64, value: u64) -> [u64; 5] {
+    cell_on(axis::make_axis_default(float(low), float(high)), value)
 }
 
-// cell_flat LOW HIGH ORDER VALUE
-pub(crate) fn cell_flat(n: &[u64], out: &mut [u64; 69632]) -> Answer {
-    if n.len() != 4 {
-        return Answer::Misfit;
-    }
+pub(crate) fn cell(low: u64, high: u64, order: u64, value: u64) -> [u64; 5] {
+    cell_on(
+        axis::make_axis(float(low), float(high), small(order)),
+        value,
+    )
+}
+
+pub(crate) fn cell_flat(low: u64, high: u64, order: u64, value: u64) -> [u64; 5] {
     let record = Axis::Flat {
-        low: float(n[0]),
-        high: float(n[1]),
-        order: small(n[2]),
+        low: float(low),
+        high: float(high),
+        order: small(order),
     };
-    found(axis::cell(record, float(n[3])), out)
+    found(axis::cell(record, float(value)))
 }
 
-// cell_sloped LOW HIGH ORDER FACTOR VALUE
-pub(crate) fn cell_sloped(n: &[u64], out: &mut [u64; 69632]) -> Answer {
-    if n.len() != 5 {
-        return Answer::Misfit;
-    }
+pub(crate) fn cell_sloped(low: u64, high: u64, order: u64, factor: u64, value: u64) -> [u64; 5] {
     let record = Axis::Sloped {
-        low: float(n[0]),
-        high: float(n[1]),
-        order: small(n[2]),
-        factor: float(n[3]),
+        low: float(low),
+        high: float(high),
+        order: small(order),
+        factor: float(factor),
     };
-    found(axis::cell(record, float(n[4])), out)
+    found(axis::cell(record, float(value)))
 }
 
-// extent_of VALUE VALUE
-pub(crate) fn extent_of(n: &[u64], out: &mut [u64; 69632]) -> Answer {
-    if n.len() != 2 {
-        return Answer::Misfit;
-    }
-    let extent = axis::extent_of(&[float(n[0]), float(n[1])]);
-    two(out, bits(extent.low), bits(extent.high))
+pub(crate) fn extent_of(a: u64, b: u64) -> [u64; 5] {
+    let extent = axis::extent_of(&[float(a), float(b)]);
+    two(bits(extent.low), bits(extent.high))
 }

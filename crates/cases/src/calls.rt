@@ -1,76 +1,82 @@
-// The calls by their names.
-use crate::answer::Answer;
+// The calls by their names. A request is told by one number: that of the call's name in the list, a digit for the parts of the request
+// and one for the numbers of its first part. So `encode_2d 1 0 1 = ..` is 213.
+use crate::answers::none;
+use crate::answers::put_answer;
 use crate::axes;
 use crate::curves;
 use crate::grids;
 use crate::points;
-use crate::words::same;
+use crate::sheet::ANSWER;
+use crate::sheet::FIRST;
+use crate::sheet::NEXT;
+use crate::sheet::PARTS;
+use crate::sheet::WANTED;
+use crate::sheet::part;
+use crate::words::number_in;
 
-// Carries out a call of the curve or of an axis, whose request has one part.
-fn short(name: &[u8], n: &[u64], out: &mut [u64; 69632]) -> Answer {
-    if same(name, b"deposit") {
-        return curves::deposit(n, out);
-    }
-    if same(name, b"encode_2d") {
-        return curves::encode_2d(n, out);
-    }
-    if same(name, b"encode_3d") {
-        return curves::encode_3d(n, out);
-    }
-    if same(name, b"decode_2d") {
-        return curves::decode_2d(n, out);
-    }
-    if same(name, b"decode_3d") {
-        return curves::decode_3d(n, out);
-    }
-    on_axis(name, n, out)
+fn name_number(name: &[u8]) -> u64 {
+    number_in(
+        b"deposit encode_2d encode_3d decode_2d decode_3d cell cell_flat cell_sloped extent_of rcb_2d rcb_3d index_2d index_3d",
+        name,
+    )
 }
 
-// Carries out a call of an axis; a name that is none fits no call.
-fn on_axis(name: &[u8], n: &[u64], out: &mut [u64; 69632]) -> Answer {
-    if same(name, b"cell") {
-        return axes::cell(n, out);
+// A number with a digit behind it; 0 where that is no digit.
+fn with_digit(number: u64, digit: u64) -> u64 {
+    if 9 < digit {
+        return 0;
     }
-    if same(name, b"cell_flat") {
-        return axes::cell_flat(n, out);
+    if 1000000 < number {
+        return 0;
     }
-    if same(name, b"cell_sloped") {
-        return axes::cell_sloped(n, out);
-    }
-    if same(name, b"extent_of") {
-        return axes::extent_of(n, out);
-    }
-    Answer::Misfit
+    10 * number + digit
 }
 
-// Carries out the call of a name, whose request has so many parts.
-pub(crate) fn call(
-    name: &[u8],
-    numbers: &[u64],
-    ends: &[usize; 8],
-    parts: usize,
-    splits: &mut [u32; 65536],
-    ids: &mut [u32; 65536],
-    out: &mut [u64; 69632],
-) -> Answer {
-    if parts == 1 {
-        return short(name, crate::answer::part(numbers, ends, 0), out);
+// The number that tells a request; none of a call's where the request has no end.
+fn request_number(name: &[u8], sheet: &[u64; 331776]) -> u64 {
+    if sheet[WANTED] == 0 {
+        return 0;
     }
-    if same(name, b"rcb_2d") {
-        return grids::rcb(3, numbers, ends, parts, splits, ids, out);
+    let first = part(sheet, 0).len() as u64;
+    with_digit(with_digit(name_number(name), sheet[PARTS]), first)
+}
+
+// Answers a request that is one part of up to five numbers.
+fn few(request: u64, a: u64, b: u64, c: u64, d: u64, e: u64) -> [u64; 5] {
+    match request {
+        112 => curves::deposit(a, b),
+        212 => curves::encode_2d_default(a, b),
+        213 => curves::encode_2d(a, b, c),
+        313 => curves::encode_3d_default(a, b, c),
+        314 => curves::encode_3d(a, b, c, d),
+        411 => curves::decode_2d_default(a),
+        412 => curves::decode_2d(a, b),
+        511 => curves::decode_3d_default(a),
+        512 => curves::decode_3d(a, b),
+        613 => axes::cell_default(a, b, c),
+        614 => axes::cell(a, b, c, d),
+        714 => axes::cell_flat(a, b, c, d),
+        815 => axes::cell_sloped(a, b, c, d, e),
+        912 => axes::extent_of(a, b),
+        _ => none(),
     }
-    if same(name, b"rcb_3d") {
-        return grids::rcb(4, numbers, ends, parts, splits, ids, out);
+}
+
+// Carries out a request that is one part.
+fn call_few(request: u64, sheet: &mut [u64; 331776]) {
+    put_answer(
+        few(request, sheet[16], sheet[17], sheet[18], sheet[19], sheet[20]),
+        sheet,
+    );
+}
+
+// Carries out the call of a name with the request on the sheet, and puts the answer there.
+pub(crate) fn call(name: &[u8], sheet: &mut [u64; 331776]) {
+    let request = request_number(name, sheet);
+    sheet[ANSWER] = sheet[NEXT];
+    match request {
+        1043 | 1144 => grids::rcb(sheet),
+        1240 | 1241 | 1350 | 1351 => points::index(request, sheet),
+        _ => call_few(request, sheet),
     }
-    if same(name, b"index_2d") {
-        if parts == 4 {
-            return points::index(numbers, ends, 3, false, out);
-        }
-    }
-    if same(name, b"index_3d") {
-        if parts == 5 {
-            return points::index(numbers, ends, 4, true, out);
-        }
-    }
-    Answer::Misfit
 }

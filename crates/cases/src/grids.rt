@@ -1,131 +1,96 @@
 // Calls that halve a grid: `width height depth / weights / splits / ids`, with the layers behind the height in 3D, where the last
 // two parts are what the slices hold before.
-use crate::answer::Answer;
-use crate::answer::part;
-use crate::answer::small;
+use crate::answers::small;
+use crate::sheet::part;
+use crate::sheet::put;
 use rules::Halving2;
 use rules::Halving3;
 
 // What a call gives whose slices do not fit their rooms: no number of refusal.
 const NO_ROOM: u32 = 4294967295;
 
-// Puts the numbers of a part into a room.
-fn narrowed(n: &[u64], room: &mut [u32; 65536]) {
+// Puts the numbers of a part into a room; how many there are.
+fn narrowed(part: &[u64], room: &mut [u32; 65536]) -> usize {
     let mut i: usize = 0;
-    while i < n.len() {
+    while i < part.len() {
         if i < 65536 {
-            room[i] = small(n[i]);
+            room[i] = small(part[i]);
         }
         i += 1;
     }
+    i
 }
 
 fn wide(x: u32) -> u64 {
     x as u64
 }
 
-// Puts the first n numbers of a room into an answer from `at` on; the place after them.
-fn widened(room: &[u32; 65536], n: usize, out: &mut [u64; 69632], at: usize) -> usize {
-    let mut next = at;
+// Puts the first n numbers of a room on the sheet.
+fn put_first(room: &[u32; 65536], n: usize, sheet: &mut [u64; 331776]) {
     for i in 0..65536usize {
         if i < n {
-            if next < 69632 {
-                out[next] = wide(room[i]);
-                next += 1;
-            }
+            put(sheet, 1, wide(room[i]));
         }
     }
-    next
 }
 
-// Halves in 2D, with the first s splits and c ids of the rooms.
-fn halve_2d(
-    halving: Halving2,
-    weights: &[u64],
-    splits: &mut [u32],
-    s: usize,
-    ids: &mut [u32],
-    c: usize,
-) -> u32 {
+// Side or depth k of a request.
+fn side(first: &[u64], k: usize) -> u32 {
+    if k < first.len() {
+        return small(first[k]);
+    }
+    0
+}
+
+fn halving_2d(first: &[u64]) -> Halving2 {
+    Halving2 {
+        width: side(first, 0),
+        height: side(first, 1),
+        depth: side(first, 2),
+    }
+}
+
+fn halving_3d(first: &[u64]) -> Halving3 {
+    Halving3 {
+        width: side(first, 0),
+        height: side(first, 1),
+        layers: side(first, 2),
+        depth: side(first, 3),
+    }
+}
+
+// Halves by the first part of the request, in 2D where that has three numbers.
+fn halve(first: &[u64], weights: &[u64], splits: &mut [u32], ids: &mut [u32]) -> u32 {
+    if first.len() == 3 {
+        return halving::rcb_2d(halving_2d(first), weights, splits, ids);
+    }
+    halving::rcb_3d(halving_3d(first), weights, splits, ids)
+}
+
+// Halves with the first s splits and c ids of the rooms.
+fn halve_first(sheet: &[u64], splits: &mut [u32], s: usize, ids: &mut [u32], c: usize) -> u32 {
     if splits.len() < s {
         return NO_ROOM;
     }
     if ids.len() < c {
         return NO_ROOM;
     }
-    halving::rcb_2d(halving, weights, &mut splits[..s], &mut ids[..c])
+    halve(part(sheet, 0), part(sheet, 1), &mut splits[..s], &mut ids[..c])
 }
 
-// Halves in 3D, with the first s splits and c ids of the rooms.
-fn halve_3d(
-    halving: Halving3,
-    weights: &[u64],
-    splits: &mut [u32],
-    s: usize,
-    ids: &mut [u32],
-    c: usize,
-) -> u32 {
-    if splits.len() < s {
-        return NO_ROOM;
-    }
-    if ids.len() < c {
-        return NO_ROOM;
-    }
-    halving::rcb_3d(halving, weights, &mut splits[..s], &mut ids[..c])
+// Halves by the request on the sheet, in rooms for the splits and the ids.
+fn rcb_in(sheet: &mut [u64; 331776], splits: &mut [u32; 65536], ids: &mut [u32; 65536]) {
+    let s = narrowed(part(sheet, 2), splits);
+    let c = narrowed(part(sheet, 3), ids);
+    let number = halve_first(sheet, splits, s, ids, c);
+    put(sheet, 1, number as u64);
+    put_first(splits, s, sheet);
+    put_first(ids, c, sheet);
 }
 
-// Halves by the first part of the request.
-fn halved(
-    n: &[u64],
-    weights: &[u64],
-    splits: &mut [u32; 65536],
-    s: usize,
-    ids: &mut [u32; 65536],
-    c: usize,
-) -> u32 {
-    if n.len() == 3 {
-        let halving = Halving2 {
-            width: small(n[0]),
-            height: small(n[1]),
-            depth: small(n[2]),
-        };
-        return halve_2d(halving, weights, splits, s, ids, c);
-    }
-    if n.len() == 4 {
-        let halving = Halving3 {
-            width: small(n[0]),
-            height: small(n[1]),
-            layers: small(n[2]),
-            depth: small(n[3]),
-        };
-        return halve_3d(halving, weights, splits, s, ids, c);
-    }
-    NO_ROOM
-}
-
-// rcb_2d, whose first part has 3 numbers, and rcb_3d, whose first part has 4
-pub(crate) fn rcb(
-    sides_and_depth: usize,
-    numbers: &[u64],
-    ends: &[usize; 8],
-    parts: usize,
-    splits: &mut [u32; 65536],
-    ids: &mut [u32; 65536],
-    out: &mut [u64; 69632],
-) -> Answer {
-    let first = part(numbers, ends, 0);
-    let s = part(numbers, ends, 2).len();
-    let c = part(numbers, ends, 3).len();
-    if parts != 4 {
-        return Answer::Misfit;
-    }
-    if first.len() != sides_and_depth {
-        return Answer::Misfit;
-    }
-    narrowed(part(numbers, ends, 2), splits);
-    narrowed(part(numbers, ends, 3), ids);
-    let number = halved(first, part(numbers, ends, 1), splits, s, ids, c);
-    out[0] = number as u64;
-    let next = widened(splits, s, out, 1);
-    Answer::Numbers(widened(ids, c, out, next))
+// rcb_2d and rcb_3d
+pub(crate) fn rcb(sheet: &mut [u64; 331776]) {
+    let mut splits = [0u32; 65536];
+    let mut ids = [0u32; 65536];
+    rcb_in(sheet, &mut splits, &mut ids);
 }

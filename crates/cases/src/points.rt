@@ -1,118 +1,103 @@
 // Calls that index all points: `order / xs / ys / indices` or `order / xs / ys / zs / indices`, where the last part is what the
-// index slice holds before; without an order, the call that needs none.
-use crate::answer::Answer;
-use crate::answer::part;
-use crate::answer::small;
+// index slice holds before; without an order, the call that needs none. A line of them has up to 240 numbers.
+use crate::answers::small;
 use crate::floats::float;
+use crate::sheet::FIRST;
+use crate::sheet::NEXT;
+use crate::sheet::place;
+use crate::sheet::put;
+use crate::sheet::put_part;
+ghost use Prim.Native.Nat.{_<_};
 
-// What a call gives whose slices do not fit their rooms: no number of refusal.
+// What a call gives whose slices do not stand where they should: no number of refusal.
 const NO_ROOM: u32 = 4294967295;
 
-// Puts the floats of a part into a room of 64; how many there are.
-fn floats(n: &[u64], xs: &mut [f64; 64]) -> usize {
-    let mut i: usize = 0;
-    while i < n.len() {
-        if i < 64 {
-            xs[i] = float(n[i]);
-        }
-        i += 1;
-    }
-    i
-}
-
-// Puts up to 64 numbers behind the first of an answer.
-fn behind(n: &[u64], out: &mut [u64; 69632]) {
-    let mut i: usize = 0;
-    while i < n.len() {
-        if i < 64 {
-            out[i + 1] = n[i];
-        }
-        i += 1;
+// Reads the sheet's first numbers as floats.
+fn floats(sheet: &[u64; 331776], points: &mut [f64; 256]) {
+    for i in 0..256usize {
+        points[i] = float(sheet[i]);
     }
 }
 
-// Indexes the first a xs, b ys and, in 3D, c zs, by the order, or by none where there is none.
-fn file(
+// The floats of part k.
+fn span<'a>(points: &'a [f64], sheet: &[u64], k: usize) -> &'a [f64]
+    requires { ⌜ k < 8 ⌝ }
+{
+    let start = place(sheet, k + 4);
+    let end = place(sheet, k + 5);
+    if end < start {
+        return &points[..0];
+    }
+    if points.len() < end {
+        return &points[..0];
+    }
+    &points[start..end]
+}
+
+// The call of a request.
+fn indices_of(
+    request: u64,
+    order: u32,
     xs: &[f64],
-    a: usize,
     ys: &[f64],
-    b: usize,
     zs: &[f64],
-    c: usize,
-    order: &[u64],
-    solid: bool,
     indices: &mut [u64],
 ) -> u32 {
-    if xs.len() < a {
-        return NO_ROOM;
+    match request {
+        1240 => knots::index_2d_default(xs, ys, indices),
+        1241 => knots::index_2d(xs, ys, order, indices),
+        1350 => knots::index_3d_default(xs, ys, zs, indices),
+        _ => knots::index_3d(xs, ys, zs, order, indices),
     }
-    if ys.len() < b {
-        return NO_ROOM;
-    }
-    if zs.len() < c {
-        return NO_ROOM;
-    }
-    if order.len() == 0 {
-        if solid {
-            return knots::index_3d_default(&xs[..a], &ys[..b], &zs[..c], indices);
-        }
-        return knots::index_2d_default(&xs[..a], &ys[..b], indices);
-    }
-    let named = small(order[0]);
-    if solid {
-        return knots::index_3d(&xs[..a], &ys[..b], &zs[..c], named, indices);
-    }
-    knots::index_2d(&xs[..a], &ys[..b], named, indices)
 }
 
-// The same, into the m places of an answer behind its first.
-fn answer(
-    xs: &[f64; 64],
-    a: usize,
-    ys: &[f64; 64],
-    b: usize,
-    zs: &[f64; 64],
-    c: usize,
-    order: &[u64],
-    solid: bool,
-    out: &mut [u64],
-    m: usize,
+// The part of a request that the indices are.
+fn last_part(request: u64) -> usize
+    ensures { λ r. ⌜ r < 8 ⌝ }
+{
+    if request < 1300 {
+        return 3;
+    }
+    4
+}
+
+// Indexes points into the last part of the request.
+fn index_into(
+    request: u64,
+    xs: &[f64],
+    ys: &[f64],
+    zs: &[f64],
+    sheet: &mut [u64],
 ) -> u32 {
-    if 64 < m {
+    let last = last_part(request);
+    let start = place(sheet, last + 4);
+    let end = place(sheet, last + 5);
+    if end < start {
         return NO_ROOM;
     }
-    let end = m + 1;
-    if out.len() < end {
+    if sheet.len() <= FIRST {
         return NO_ROOM;
     }
-    file(xs, a, ys, b, zs, c, order, solid, &mut out[1..end])
+    let order = small(sheet[FIRST]);
+    indices_of(request, order, xs, ys, zs, &mut sheet[start..end])
 }
 
-// index_2d, whose indices are part 3, or index_3d, whose zs are part 3 and indices part 4
-pub(crate) fn index(
-    numbers: &[u64],
-    ends: &[usize; 8],
-    last: usize,
-    solid: bool,
-    out: &mut [u64; 69632],
-) -> Answer {
-    let order = part(numbers, ends, 0);
-    let held = part(numbers, ends, last);
-    let m = held.len();
-    if 1 < order.len() {
-        return Answer::Misfit;
+// Indexes the points of a sheet.
+fn index_points(request: u64, points: &[f64; 256], sheet: &mut [u64; 331776]) -> u32 {
+    let xs = span(points, sheet, 1);
+    let ys = span(points, sheet, 2);
+    let zs = span(points, sheet, 3);
+    index_into(request, xs, ys, zs, sheet)
+}
+
+// index_2d and index_3d
+pub(crate) fn index(request: u64, sheet: &mut [u64; 331776]) {
+    if 256 < sheet[NEXT] {
+        return;
     }
-    if 64 < m {
-        return Answer::Misfit;
-    }
-    let mut xs = [0.0f64; 64];
-    let mut ys = [0.0f64; 64];
-    let mut zs = [0.0f64; 64];
-    let a = floats(part(numbers, ends, 1), &mut xs);
-    let b = floats(part(numbers, ends, 2), &mut ys);
-    let c = floats(part(numbers, ends, 3), &mut zs);
-    behind(held, out);
-    let number = answer(&xs, a, &ys, b, &zs, c, order, solid, out, m);
-    out[0] = number as u64;
-    Answer::Numbers(m + 1)
+    let mut points = [0.0f64; 256];
+    floats(sheet, &mut points);
+    let number = index_points(request, &points, sheet);
+    put(sheet, 1, number as u64);
+    put_part(sheet, last_part(request));
 }

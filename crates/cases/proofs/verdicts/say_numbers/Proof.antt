@@ -1,0 +1,15 @@
+-- The places passed are among the numbers.
+use lib.ListN.{length}
+use Prim.Native.Nat.{_≤_, _-_}
+use borrow.Author.Needs.{needs}
+use Rattle.cases.proofs.verdicts.say_numbers.Statement.{statement}
+use Rattle.cases.proofs.verdicts.say_numbers.Tie as tie
+
+abbrev Inv-loop : tie.InvT-loop
+Inv-loop numbers i₀ t3 i = i ≤ length numbers
+
+abbrev μ-loop : tie.MeasureT-loop
+μ-loop numbers i₀ t3 i = length numbers - i
+
+pub say-numbers-spec : {M : Type 1} → statement M
+say-numbers-spec = tie.close (tie.spec Inv-loop μ-loop (λ c. search needs) (λ c. search needs) (λ c. search needs) (λ c. search needs) (λ c κs. search needs) (λ c. search needs) (λ c. search needs) (λ c. search needs) (λ c. search needs))
