@@ -22,77 +22,66 @@ fn line_end(text: &[u8], at: usize) -> usize
     i
 }
 
-// Counts a verdict.
-fn count(tally: &mut [u64; 4], verdict: usize) {
-    if verdict < 4 {
-        tally[verdict] = std::num::wrapping_add_u64(tally[verdict], 1);
-    }
-}
-
-// Prints a tally.
-fn say_tally(tally: [u64; 4]) {
-    say(b"  ", tally[0]);
-    say(b" agree, ", tally[1]);
-    say(b" differ, ", tally[2]);
-    io::write_all(1, b" cannot be read\n");
-}
-
-// Runs all lines of a text.
-fn run_lines(text: &[u8], sheet: &mut [u64; 331776]) {
-    let mut tally = [0u64; 4];
+// Runs all lines of a text; the verdicts' sum has 21 bits for those that agree, for those that differ and for those that cannot be
+// read, and a file has fewer lines than that.
+fn run_lines(text: &[u8]) {
+    let mut sheet = [0u64; 331776];
+    let mut sum: u64 = 0;
     let mut number: u64 = 0;
     let mut at: usize = 0;
     while at < text.len() {
         let end = line_end(text, at);
         number += 1;
-        count(&mut tally, of_line(&text[at..end], number, sheet));
+        sum = std::num::wrapping_add_u64(sum, of_line(&text[at..end], number, &mut sheet));
         at = end;
     }
-    say_tally(tally);
-}
-
-// Runs the first `size` bytes.
-fn run_first(bytes: &[u8], size: usize, sheet: &mut [u64; 331776]) {
-    if size <= bytes.len() {
-        run_lines(&bytes[..size], sheet);
-    }
-}
-
-// Reads an open file into the room; how many bytes it has.
-fn read_open(file: i32, bytes: &mut [u8; 1048576]) -> usize {
-    io::read_full(file, bytes)
+    say(
+        b"  % agree, % differ, % cannot be read\n",
+        sum % 2097152,
+        sum / 2097152 % 2097152,
+        sum / 4398046511104,
+    );
 }
 
 // Reads the file of a name into the room; how many bytes it has.
 fn read(name: &[u8], bytes: &mut [u8; 1048576]) -> usize {
     let file = os::open_read(name);
+    let size = io::read_full(file, bytes);
+    libc::close(file);
     if file < 0 {
         return NO_FILE;
     }
-    let size = read_open(file, bytes);
-    libc::close(file);
     size
 }
 
-// Whether a file was read; a room that is full means a file that was cut.
-fn is_read(size: usize) -> bool {
+// Says why a file is not run; a room that is full means a file that was cut.
+fn say_unrun(size: usize) {
     if size == NO_FILE {
-        io::write_all(1, b"  no such file\n");
-        return false;
+        say(b"  no such file\n", 0, 0, 0);
+    } else {
+        say(b"  the file is too long\n", 0, 0, 0);
     }
-    if 1048576 <= size {
-        io::write_all(1, b"  the file is too long\n");
-        return false;
+}
+
+// Runs the first `size` bytes.
+fn run_first(bytes: &[u8], size: usize) {
+    if size < bytes.len() {
+        run_lines(&bytes[..size]);
+    } else {
+        say_unrun(size);
     }
-    true
+}
+
+// Reads a file into the room and runs it.
+fn run_in(name: &[u8], bytes: &mut [u8; 1048576]) {
+    let size = read(name, bytes);
+    run_first(bytes, size);
 }
 
 // Runs the cases of a file by its name.
-pub(crate) fn run(name: &[u8], bytes: &mut [u8; 1048576], sheet: &mut [u64; 331776]) {
+pub(crate) fn run(name: &[u8]) {
+    let mut bytes = [0u8; 1048576];
     io::write_all(1, name);
-    io::write_all(1, b"\n");
-    let size = read(name, bytes);
-    if is_read(size) {
-        run_first(bytes, size, sheet);
-    }
+    say(b"\n", 0, 0, 0);
+    run_in(name, &mut bytes);
 }

@@ -1,7 +1,7 @@
 // Calls that halve a grid: `width height depth / weights / splits / ids`, with the layers behind the height in 3D, where the last
 // two parts are what the slices hold before.
-use crate::answers::small;
-use crate::sheet::part;
+use crate::calls::small;
+use crate::sheet::numbers_at;
 use crate::sheet::put;
 use rules::Halving2;
 use rules::Halving3;
@@ -9,8 +9,18 @@ use rules::Halving3;
 // What a call gives whose slices do not fit their rooms: no number of refusal.
 const NO_ROOM: u32 = 4294967295;
 
+// Where the head of a sheet says where the parts of a request start.
+const FIRST: usize = 4;
+
+const WEIGHTS: usize = 5;
+
+const SPLITS: usize = 6;
+
+const IDS: usize = 7;
+
 // Puts the numbers of a part into a room; how many there are.
-fn narrowed(part: &[u64], room: &mut [u32; 65536]) -> usize {
+fn narrowed(sheet: &[u64], said: usize, room: &mut [u32; 65536]) -> usize {
+    let part = numbers_at(sheet, said);
     let mut i: usize = 0;
     while i < part.len() {
         if i < 65536 {
@@ -42,29 +52,26 @@ fn side(first: &[u64], k: usize) -> u32 {
     0
 }
 
-fn halving_2d(first: &[u64]) -> Halving2 {
-    Halving2 {
-        width: side(first, 0),
-        height: side(first, 1),
-        depth: side(first, 2),
-    }
-}
-
-fn halving_3d(first: &[u64]) -> Halving3 {
-    Halving3 {
-        width: side(first, 0),
-        height: side(first, 1),
-        layers: side(first, 2),
-        depth: side(first, 3),
-    }
-}
-
 // Halves by the first part of the request, in 2D where that has three numbers.
 fn halve(first: &[u64], weights: &[u64], splits: &mut [u32], ids: &mut [u32]) -> u32 {
+    let width = side(first, 0);
+    let height = side(first, 1);
+    let third = side(first, 2);
     if first.len() == 3 {
-        return halving::rcb_2d(halving_2d(first), weights, splits, ids);
+        let halving = Halving2 {
+            width,
+            height,
+            depth: third,
+        };
+        return halving::rcb_2d(halving, weights, splits, ids);
     }
-    halving::rcb_3d(halving_3d(first), weights, splits, ids)
+    let halving = Halving3 {
+        width,
+        height,
+        layers: third,
+        depth: side(first, 3),
+    };
+    halving::rcb_3d(halving, weights, splits, ids)
 }
 
 // Halves with the first s splits and c ids of the rooms.
@@ -75,13 +82,18 @@ fn halve_first(sheet: &[u64], splits: &mut [u32], s: usize, ids: &mut [u32], c: 
     if ids.len() < c {
         return NO_ROOM;
     }
-    halve(part(sheet, 0), part(sheet, 1), &mut splits[..s], &mut ids[..c])
+    halve(
+        numbers_at(sheet, FIRST),
+        numbers_at(sheet, WEIGHTS),
+        &mut splits[..s],
+        &mut ids[..c],
+    )
 }
 
 // Halves by the request on the sheet, in rooms for the splits and the ids.
 fn rcb_in(sheet: &mut [u64; 331776], splits: &mut [u32; 65536], ids: &mut [u32; 65536]) {
-    let s = narrowed(part(sheet, 2), splits);
-    let c = narrowed(part(sheet, 3), ids);
+    let s = narrowed(sheet, SPLITS, splits);
+    let c = narrowed(sheet, IDS, ids);
     let number = halve_first(sheet, splits, s, ids, c);
     put(sheet, 1, number as u64);
     put_first(splits, s, sheet);

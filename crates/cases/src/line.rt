@@ -1,50 +1,30 @@
 // The numbers of a case behind its call's name: the parts of the request, each ended by `/` or the last by `=`, and the answer.
-use crate::numbers::Word;
 use crate::numbers::number;
-use crate::numbers::times;
-use crate::sheet::WANTED;
+use crate::numbers::star_of;
+use crate::numbers::whole;
 use crate::sheet::begin;
 use crate::sheet::end_part;
 use crate::sheet::put;
 use crate::words::end_of;
+use crate::words::number_in;
 use crate::words::start_of;
 ghost use Prim.Native.Nat.{_≤_, _<_};
 ghost use lib.ListN.{length};
 
-// Ends a part by a mark, which may stand there; `/` parts an answer for the eye alone.
-fn take_mark(last: bool, sheet: &mut [u64; 331776]) -> bool {
-    if sheet[WANTED] == 0 {
-        return end_part(sheet, last);
-    }
-    !last
-}
-
 // Takes a number on the sheet, such as `12` or, for eight of them, `8*12`; whether it is one.
 fn take_number(word: &[u8], sheet: &mut [u64; 331776]) -> bool {
-    let counted = times(word);
-    let Word::Number(times) = counted else {
-        return false;
-    };
-    let met = number(word);
-    let Word::Number(value) = met else {
-        return false;
-    };
-    put(sheet, times, value)
-}
-
-// The byte of a word that has one; 0 of any other.
-fn only_byte(word: &[u8]) -> u8 {
-    if word.len() == 1 {
-        return word[0];
+    let star = star_of(word);
+    if star < word.len() {
+        return put(sheet, whole(&word[..star]), number(&word[star + 1..]));
     }
-    0
+    put(sheet, 1, number(word))
 }
 
 // Takes a word on the sheet; whether it can be read.
 fn take(word: &[u8], sheet: &mut [u64; 331776]) -> bool {
-    match only_byte(word) {
-        b'/' => take_mark(false, sheet),
-        b'=' => take_mark(true, sheet),
+    match number_in(b"/ =", word) {
+        1 => end_part(sheet, false),
+        2 => end_part(sheet, true),
         _ => take_number(word, sheet),
     }
 }

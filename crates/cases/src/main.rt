@@ -6,7 +6,6 @@
 // An answer is the number of refusal, the values, and what the slices hold after the call. `numbers` says how a number is written and
 // `line` how a line is read; `calls` has the calls. For each file that the program is started with it prints how many lines agree, and
 // each line that differs or cannot be read. A new case, or a file of cases, costs no proof.
-mod answers;
 mod axes;
 mod calls;
 mod curves;
@@ -21,19 +20,17 @@ mod verdicts;
 mod words;
 
 // Runs the file that argument i names.
-fn run_argument(i: usize, bytes: &mut [u8; 1048576], sheet: &mut [u64; 331776]) {
+fn run_argument(i: usize) {
     let mut name = io::buffer();
     let size = os::arg(i, &mut name);
-    files::run(&name[..size], bytes, sheet);
+    files::run(&name[..size]);
 }
 
 fn main() {
-    let mut bytes = [0u8; 1048576];
-    let mut sheet = [0u64; 331776];
     let count = os::arg_count();
     let mut i: usize = 1;
     while i < count {
-        run_argument(i, &mut bytes, &mut sheet);
+        run_argument(i);
         i += 1;
     }
 }

@@ -1,5 +1,5 @@
 // A word of a case as a number: a whole number; a decimal with a point, `nan`, `inf` or `-inf` as the bits of an f64; `uncut`, the
-// split of a node that is not cut; or `any`, which stands for any number of an answer. `8*12` is 12 eight times.
+// split of a node that is not cut; or `any`, which stands for any number of an answer.
 use crate::floats::INFINITE;
 use crate::floats::NAN;
 use crate::floats::NEGATIVE;
@@ -10,17 +10,14 @@ use wholes::Whole;
 ghost use Prim.Native.Nat.{_≤_};
 ghost use lib.ListN.{length};
 
-// The number that a word stands for, or none.
-pub enum Word {
-    Number(u64),
-    Unknown,
-}
-
 // What `any` is read as; no case can ask for this number itself.
 pub(crate) const ANY: u64 = 18446744073709551614;
 
+// What a word is read as that is no number: the bits of a NaN that none is read as.
+pub(crate) const UNKNOWN: u64 = 0xfff8_0000_0000_0001;
+
 // Where the first `*` of a word stands, or its end.
-fn star_of(word: &[u8]) -> usize
+pub(crate) fn star_of(word: &[u8]) -> usize
     ensures { λ r. ⌜ r ≤ length (now (word .entry)) ⌝ }
 {
     let mut i: usize = 0;
@@ -34,61 +31,38 @@ fn star_of(word: &[u8]) -> usize
 }
 
 // A whole number.
-fn whole(word: &[u8]) -> Word {
+pub(crate) fn whole(word: &[u8]) -> u64 {
     let met = wholes::whole_of(word);
     let Whole::Value(n) = met else {
-        return Word::Unknown;
+        return UNKNOWN;
     };
     if n == ANY {
-        return Word::Unknown;
+        return UNKNOWN;
     }
-    Word::Number(n)
+    n
 }
 
 // The bits of a decimal.
-fn decimal(word: &[u8]) -> Word {
+fn decimal(word: &[u8]) -> u64 {
     let met = decimals::decimal_of(word);
     let Decimal::Value(x) = met else {
-        return Word::Unknown;
+        return UNKNOWN;
     };
-    Word::Number(bits(x))
+    bits(x)
 }
 
-// A number that has a name, or a decimal.
-fn named(word: &[u8]) -> Word {
+// The number that a word stands for.
+pub(crate) fn number(word: &[u8]) -> u64 {
+    let n = whole(word);
+    if n != UNKNOWN {
+        return n;
+    }
     match number_in(b"any uncut nan inf -inf", word) {
-        1 => Word::Number(ANY),
-        2 => Word::Number(rules::UNCUT as u64),
-        3 => Word::Number(NAN),
-        4 => Word::Number(INFINITE),
-        5 => Word::Number(NEGATIVE),
+        1 => ANY,
+        2 => rules::UNCUT as u64,
+        3 => NAN,
+        4 => INFINITE,
+        5 => NEGATIVE,
         _ => decimal(word),
     }
-}
-
-// The number that stands once.
-fn single(word: &[u8]) -> Word {
-    let met = whole(word);
-    let Word::Number(n) = met else {
-        return named(word);
-    };
-    Word::Number(n)
-}
-
-// The number of a word.
-pub(crate) fn number(word: &[u8]) -> Word {
-    let star = star_of(word);
-    if star < word.len() {
-        return single(&word[star + 1..]);
-    }
-    single(word)
-}
-
-// How many times a word stands for its number.
-pub(crate) fn times(word: &[u8]) -> Word {
-    let star = star_of(word);
-    if star < word.len() {
-        return whole(&word[..star]);
-    }
-    Word::Number(1)
 }

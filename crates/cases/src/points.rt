@@ -1,16 +1,21 @@
 // Calls that index all points: `order / xs / ys / indices` or `order / xs / ys / zs / indices`, where the last part is what the
 // index slice holds before; without an order, the call that needs none. A line of them has up to 240 numbers.
-use crate::answers::small;
+use crate::calls::small;
 use crate::floats::float;
 use crate::sheet::FIRST;
 use crate::sheet::NEXT;
-use crate::sheet::place;
 use crate::sheet::put;
-use crate::sheet::put_part;
 ghost use Prim.Native.Nat.{_<_};
 
 // What a call gives whose slices do not stand where they should: no number of refusal.
 const NO_ROOM: u32 = 4294967295;
+
+// Where the head of a sheet says where the parts of a request start.
+const XS: usize = 5;
+
+const YS: usize = 6;
+
+const ZS: usize = 7;
 
 // Reads the sheet's first numbers as floats.
 fn floats(sheet: &[u64; 331776], points: &mut [f64; 256]) {
@@ -19,16 +24,16 @@ fn floats(sheet: &[u64; 331776], points: &mut [f64; 256]) {
     }
 }
 
-// The floats of part k.
-fn span<'a>(points: &'a [f64], sheet: &[u64], k: usize) -> &'a [f64]
-    requires { ⌜ k < 8 ⌝ }
+// The floats from the place that the head of a sheet says at `said` to before the one that it says next.
+fn floats_at<'a>(points: &'a [f64], sheet: &[u64; 331776], said: usize) -> &'a [f64]
+    requires { ⌜ said < 16 ⌝ }
 {
-    let start = place(sheet, k + 4);
-    let end = place(sheet, k + 5);
-    if end < start {
+    let start = sheet[said] as usize;
+    let end = sheet[said + 1] as usize;
+    if points.len() < end {
         return &points[..0];
     }
-    if points.len() < end {
+    if end < start {
         return &points[..0];
     }
     &points[start..end]
@@ -51,53 +56,62 @@ fn indices_of(
     }
 }
 
-// The part of a request that the indices are.
-fn last_part(request: u64) -> usize
-    ensures { λ r. ⌜ r < 8 ⌝ }
-{
-    if request < 1300 {
-        return 3;
-    }
-    4
-}
-
-// Indexes points into the last part of the request.
+// Indexes points into the numbers from `start` to before `end`.
 fn index_into(
     request: u64,
+    order: u32,
     xs: &[f64],
     ys: &[f64],
     zs: &[f64],
     sheet: &mut [u64],
+    start: usize,
+    end: usize,
 ) -> u32 {
-    let last = last_part(request);
-    let start = place(sheet, last + 4);
-    let end = place(sheet, last + 5);
+    if sheet.len() < end {
+        return NO_ROOM;
+    }
     if end < start {
         return NO_ROOM;
     }
-    if sheet.len() <= FIRST {
-        return NO_ROOM;
-    }
-    let order = small(sheet[FIRST]);
     indices_of(request, order, xs, ys, zs, &mut sheet[start..end])
 }
 
-// Indexes the points of a sheet.
-fn index_points(request: u64, points: &[f64; 256], sheet: &mut [u64; 331776]) -> u32 {
-    let xs = span(points, sheet, 1);
-    let ys = span(points, sheet, 2);
-    let zs = span(points, sheet, 3);
-    index_into(request, xs, ys, zs, sheet)
+// Indexes the points of a sheet, into the numbers from `start` to before `end`.
+fn index_points(
+    request: u64,
+    points: &[f64; 256],
+    sheet: &mut [u64; 331776],
+    start: usize,
+    end: usize,
+) -> u32 {
+    let order = small(sheet[FIRST]);
+    let xs = floats_at(points, sheet, XS);
+    let ys = floats_at(points, sheet, YS);
+    let zs = floats_at(points, sheet, ZS);
+    index_into(request, order, xs, ys, zs, sheet, start, end)
 }
 
-// index_2d and index_3d
-pub(crate) fn index(request: u64, sheet: &mut [u64; 331776]) {
-    if 256 < sheet[NEXT] {
-        return;
+// Answers by the number and the numbers from `start` to before `end`.
+fn put_answer(number: u32, start: usize, end: usize, sheet: &mut [u64; 331776]) {
+    put(sheet, 1, number as u64);
+    let mut i = start;
+    while i < end {
+        if i < 331776 {
+            let index = sheet[i];
+            put(sheet, 1, index);
+        }
+        i += 1;
     }
+}
+
+// index_2d and index_3d; the head of the sheet says at `last` where the indices start.
+pub(crate) fn index(request: u64, last: usize, sheet: &mut [u64; 331776])
+    requires { ⌜ last < 16 ⌝ }
+{
+    let start = sheet[last] as usize;
+    let end = sheet[last + 1] as usize;
     let mut points = [0.0f64; 256];
     floats(sheet, &mut points);
-    let number = index_points(request, &points, sheet);
-    put(sheet, 1, number as u64);
-    put_part(sheet, last_part(request));
+    let number = index_points(request, &points, sheet, start, end);
+    put_answer(number, start, end, sheet);
 }

@@ -1,31 +1,31 @@
-// A case on a sheet of numbers: first where things stand on it, from `FIRST` on the numbers of the line, and behind them those of the
-// answer. The numbers of the line are the parts of the request, one after the other, and what is wanted.
-ghost use Prim.Native.Nat.{_≤_, _<_};
-ghost use lib.ListN.{length};
+// A case on a sheet of numbers: in the head where things stand, then the numbers of the line, which are the parts of the request one
+// after the other and what is wanted, and behind them the answer.
+use crate::numbers::UNKNOWN;
 
-// On the sheet stands at NEXT where the next number goes, at ANSWER where the answer starts, at WANTED where it is what is wanted that
-// does (0 before `=`), at PARTS how many parts have ended, and from STARTS on where each part starts.
-pub(crate) const NEXT: usize = 0;
+// The head. At WANTED it says where what is wanted starts (0 before `=`), then where the answer starts, where the next number goes, how
+// many parts have ended and, from FIRST_PART on, where each part starts.
+pub(crate) const WANTED: usize = 0;
 
-pub(crate) const ANSWER: usize = 1;
+pub(crate) const ANSWERED: usize = 1;
 
-pub(crate) const WANTED: usize = 2;
+pub(crate) const NEXT: usize = 2;
 
 pub(crate) const PARTS: usize = 3;
 
-const STARTS: usize = 4;
+pub(crate) const FIRST_PART: usize = 4;
 
+// Where the numbers start.
 pub(crate) const FIRST: usize = 16;
 
 // Begins a sheet.
 pub(crate) fn begin(sheet: &mut [u64; 331776]) {
-    sheet[NEXT] = 16;
     sheet[WANTED] = 0;
+    sheet[NEXT] = 16;
     sheet[PARTS] = 0;
-    sheet[STARTS] = 16;
+    sheet[FIRST_PART] = 16;
 }
 
-// Puts a number on the sheet as many times; whether there is room.
+// Puts a number on the sheet as many times; whether it is one and there is room.
 pub(crate) fn put(sheet: &mut [u64; 331776], times: u64, number: u64) -> bool {
     let mut left = times;
     while 0 < left {
@@ -37,66 +37,42 @@ pub(crate) fn put(sheet: &mut [u64; 331776], times: u64, number: u64) -> bool {
         sheet[NEXT] = next + 1;
         left -= 1;
     }
-    true
+    number != UNKNOWN
 }
 
-// Ends a part of the request, and with `last` the whole of it; whether it is one of up to eight.
+// Ends a part of the request, and with `last` the whole of it; whether that may stand there. `/` parts an answer for the eye alone.
 pub(crate) fn end_part(sheet: &mut [u64; 331776], last: bool) -> bool {
-    let parts = sheet[PARTS];
-    let next = sheet[NEXT];
-    if 8 <= parts {
-        return false;
+    if sheet[WANTED] != 0 {
+        return !last;
     }
-    sheet[parts as usize + 5] = next;
-    sheet[PARTS] = parts + 1;
+    let next = sheet[NEXT];
     if last {
         sheet[WANTED] = next;
     }
+    let parts = sheet[PARTS];
+    if 8 <= parts {
+        return false;
+    }
+    sheet[PARTS] = parts + 1;
+    sheet[parts as usize + 5] = next;
     true
 }
 
-// Where something stands, by where that is said.
-pub(crate) fn place(sheet: &[u64], said: usize) -> usize
-    ensures { λ r. ⌜ r ≤ length (now (sheet .entry)) ⌝ }
-{
-    if sheet.len() <= said {
-        return 0;
+// The numbers from the place that the head says at `said` to before the one that it says next.
+pub(crate) fn numbers_at(sheet: &[u64], said: usize) -> &[u64] {
+    if sheet.len() <= 16 {
+        return sheet;
     }
-    let place = sheet[said] as usize;
-    if sheet.len() < place {
-        return 0;
+    if 15 <= said {
+        return sheet;
     }
-    place
-}
-
-// The numbers from one place to before another, by where these are said.
-pub(crate) fn between(sheet: &[u64], from: usize, to: usize) -> &[u64] {
-    let start = place(sheet, from);
-    let end = place(sheet, to);
+    let start = sheet[said] as usize;
+    let end = sheet[said + 1] as usize;
+    if sheet.len() < end {
+        return &sheet[..0];
+    }
     if end < start {
         return &sheet[..0];
     }
     &sheet[start..end]
-}
-
-// Part k of the request.
-pub(crate) fn part(sheet: &[u64], k: usize) -> &[u64]
-    requires { ⌜ k < 8 ⌝ }
-{
-    between(sheet, k + 4, k + 5)
-}
-
-// Puts the numbers of part k on the sheet once more.
-pub(crate) fn put_part(sheet: &mut [u64; 331776], k: usize)
-    requires { ⌜ k < 8 ⌝ }
-{
-    let mut i = place(sheet, k + 4);
-    let end = place(sheet, k + 5);
-    while i < end {
-        if i < 331776 {
-            let number = sheet[i];
-            put(sheet, 1, number);
-        }
-        i += 1;
-    }
 }

@@ -2,26 +2,37 @@
 use crate::calls;
 use crate::line;
 use crate::numbers::ANY;
-use crate::sheet::ANSWER;
-use crate::sheet::NEXT;
+use crate::sheet::ANSWERED;
 use crate::sheet::WANTED;
-use crate::sheet::between;
+use crate::sheet::numbers_at;
 use crate::words::end_of;
 use crate::words::start_of;
 
-// The verdicts, which are the places of a tally.
-const AGREES: usize = 0;
+// The verdicts, which are added up.
+const NO_CASE: u64 = 0;
 
-const DIFFERS: usize = 1;
+const AGREES: u64 = 1;
 
-const UNREAD: usize = 2;
+const DIFFERS: u64 = 2097152;
 
-const NO_CASE: usize = 3;
+const UNREAD: u64 = 4398046511104;
 
-// Prints a text and a number behind it.
-pub(crate) fn say(before: &[u8], number: u64) {
-    io::write_all(1, before);
-    io::print_decimal(1, number);
+// Prints a text of bytes with up to three numbers, each in the place of a `%`.
+pub(crate) fn say(text: &[u8], first: u64, second: u64, third: u64) {
+    let mut a = first;
+    let mut b = second;
+    let mut i: usize = 0;
+    while i < text.len() {
+        let end = i + 1;
+        if text[i] == b'%' {
+            io::print_decimal(1, a);
+            a = b;
+            b = third;
+        } else {
+            io::write_all(1, &text[i..end]);
+        }
+        i = end;
+    }
 }
 
 // Whether the numbers answered are those that were wanted.
@@ -41,49 +52,46 @@ fn agrees(answered: &[u64], wanted: &[u64]) -> bool {
     true
 }
 
-// Prints up to 32 numbers.
-fn say_numbers(numbers: &[u64]) {
+// Says that the case of a line differs, with up to 32 numbers of the answer.
+fn differs(number: u64, answered: &[u64]) -> u64 {
+    say(b"  line % differs, the answer is", number, 0, 0);
     let mut i: usize = 0;
-    while i < numbers.len() {
+    while i < answered.len() {
         if i < 32 {
-            say(b" ", numbers[i]);
+            say(b" %", answered[i], 0, 0);
         }
         i += 1;
     }
-}
-
-// Says that the case of a line differs.
-fn differs(number: u64, answered: &[u64]) -> usize {
-    say(b"  line ", number);
-    io::write_all(1, b" differs, the answer is");
-    say_numbers(answered);
-    io::write_all(1, b"\n");
+    say(b"\n", 0, 0, 0);
     DIFFERS
 }
 
 // Says that a line cannot be read, by the place of the word where that begins.
-fn unread(number: u64, line: &[u8], place: usize) -> usize {
+fn unread(number: u64, line: &[u8], place: usize) -> u64 {
     let here = text::place_at(line, place);
-    say(b"  line ", number);
-    say(b" cannot be read at column ", here.column as u64);
-    io::write_all(1, b"\n");
+    say(
+        b"  line % cannot be read at column %\n",
+        number,
+        here.column as u64,
+        0,
+    );
     UNREAD
 }
 
-// The verdict on a call that was carried out; a call that fits none answers nothing.
-fn of_call(number: u64, line: &[u8], start: usize, sheet: &[u64]) -> usize {
-    let answered = between(sheet, ANSWER, NEXT);
+// The verdict on a call that was carried out; a request that fits no call is not answered.
+fn of_call(number: u64, line: &[u8], start: usize, sheet: &[u64]) -> u64 {
+    let answered = numbers_at(sheet, ANSWERED);
     if answered.len() == 0 {
         return unread(number, line, start);
     }
-    if agrees(answered, between(sheet, WANTED, ANSWER)) {
+    if agrees(answered, numbers_at(sheet, WANTED)) {
         return AGREES;
     }
     differs(number, answered)
 }
 
 // Carries out a line's call and holds the answer against the line's.
-pub(crate) fn of_line(line: &[u8], number: u64, sheet: &mut [u64; 331776]) -> usize {
+pub(crate) fn of_line(line: &[u8], number: u64, sheet: &mut [u64; 331776]) -> u64 {
     let start = start_of(line, 0);
     if line.len() <= start {
         return NO_CASE;

@@ -6,4 +6,4 @@ use Rattle.cases.proofs.files.run_first.Statement.{statement}
 use Rattle.cases.proofs.files.run_first.Tie as tie
 
 pub run-first-spec : {M : Type 1} → statement M
-run-first-spec = tie.close (tie.spec (λ c. simp length-take (omega arith)) (λ c κs. search needs) (λ c. search needs) (λ c. search needs))
+run-first-spec = tie.close (tie.spec (λ c. simp length-take (omega arith)) (λ c κs. search needs) (λ c κs. search needs) (λ c. search needs) (λ c. search needs))

@@ -6,10 +6,10 @@ use Rattle.cases.proofs.grids.narrowed.Statement.{statement}
 use Rattle.cases.proofs.grids.narrowed.Tie as tie
 
 abbrev Inv-loop : tie.InvT-loop
-Inv-loop part room₀ i₀ room i = i ≤ length part
+Inv-loop sheet said room₀ part i₀ room i = i ≤ length part
 
 abbrev μ-loop : tie.MeasureT-loop
-μ-loop part room₀ i₀ room i = length part - i
+μ-loop sheet said room₀ part i₀ room i = length part - i
 
 pub narrowed-spec : {M : Type 1} → statement M
-narrowed-spec = tie.close (tie.spec Inv-loop μ-loop (λ c. search needs) (λ c. search needs) (λ c. search needs) (λ c κs. search needs) (λ c. search needs) (λ c. search needs) (λ c. search needs) (λ c. search needs) (λ c. search needs) (λ c. search needs))
+narrowed-spec = tie.close (tie.spec Inv-loop μ-loop (λ c κs. search needs) (λ c. search needs) (λ c. search needs) (λ c. search needs) (λ c κs. search needs) (λ c. search needs) (λ c. search needs) (λ c. search needs) (λ c. search needs) (λ c. search needs) (λ c. search needs))
