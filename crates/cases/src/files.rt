@@ -1,4 +1,6 @@
 // Runs all lines of a file and prints how many of them agree.
+use crate::verdicts::DIFFERS;
+use crate::verdicts::UNREAD;
 use crate::verdicts::of_line;
 use crate::verdicts::say;
 ghost use Prim.Native.Nat.{_≤_, _<_};
@@ -22,25 +24,28 @@ fn line_end(text: &[u8], at: usize) -> usize
     i
 }
 
-// Runs all lines of a text; the verdicts' sum has 21 bits for those that agree, for those that differ and for those that cannot be
-// read, and a file has fewer lines than that.
-fn run_lines(text: &[u8]) {
-    let mut sheet = [0u64; 331776];
+// Prints a sum of verdicts.
+fn say_sum(sum: u64) {
+    say(
+        b"  % agree, % differ, % cannot be read\n",
+        sum % DIFFERS,
+        sum / DIFFERS % DIFFERS,
+        sum / UNREAD,
+    );
+}
+
+// Runs all lines of a text.
+fn run_lines(text: &[u8], sheet: &mut [u64; 331776]) {
     let mut sum: u64 = 0;
     let mut number: u64 = 0;
     let mut at: usize = 0;
     while at < text.len() {
         let end = line_end(text, at);
         number += 1;
-        sum = std::num::wrapping_add_u64(sum, of_line(&text[at..end], number, &mut sheet));
+        sum = std::num::wrapping_add_u64(sum, of_line(&text[at..end], number, sheet));
         at = end;
     }
-    say(
-        b"  % agree, % differ, % cannot be read\n",
-        sum % 2097152,
-        sum / 2097152 % 2097152,
-        sum / 4398046511104,
-    );
+    say_sum(sum);
 }
 
 // Reads the file of a name into the room; how many bytes it has.
@@ -65,8 +70,9 @@ fn say_unrun(size: usize) {
 
 // Runs the first `size` bytes.
 fn run_first(bytes: &[u8], size: usize) {
+    let mut sheet = [0u64; 331776];
     if size < bytes.len() {
-        run_lines(&bytes[..size]);
+        run_lines(&bytes[..size], &mut sheet);
     } else {
         say_unrun(size);
     }

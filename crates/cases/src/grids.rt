@@ -35,8 +35,9 @@ fn wide(x: u32) -> u64 {
     x as u64
 }
 
-// Puts the first n numbers of a room on the sheet.
-fn put_first(room: &[u32; 65536], n: usize, sheet: &mut [u64; 331776]) {
+// Puts as many numbers of a room on the sheet as a part has.
+fn put_first(room: &[u32; 65536], said: usize, sheet: &mut [u64; 331776]) {
+    let n = numbers_at(sheet, said).len();
     for i in 0..65536usize {
         if i < n {
             put(sheet, 1, wide(room[i]));
@@ -90,19 +91,19 @@ fn halve_first(sheet: &[u64], splits: &mut [u32], s: usize, ids: &mut [u32], c: 
     )
 }
 
-// Halves by the request on the sheet, in rooms for the splits and the ids.
-fn rcb_in(sheet: &mut [u64; 331776], splits: &mut [u32; 65536], ids: &mut [u32; 65536]) {
+// Halves in rooms for the splits and the ids.
+fn halve_in(sheet: &[u64], splits: &mut [u32; 65536], ids: &mut [u32; 65536]) -> u32 {
     let s = narrowed(sheet, SPLITS, splits);
     let c = narrowed(sheet, IDS, ids);
-    let number = halve_first(sheet, splits, s, ids, c);
-    put(sheet, 1, number as u64);
-    put_first(splits, s, sheet);
-    put_first(ids, c, sheet);
+    halve_first(sheet, splits, s, ids, c)
 }
 
 // rcb_2d and rcb_3d
 pub(crate) fn rcb(sheet: &mut [u64; 331776]) {
     let mut splits = [0u32; 65536];
     let mut ids = [0u32; 65536];
-    rcb_in(sheet, &mut splits, &mut ids);
+    let number = halve_in(sheet, &mut splits, &mut ids);
+    put(sheet, 1, number as u64);
+    put_first(&splits, SPLITS, sheet);
+    put_first(&ids, IDS, sheet);
 }

@@ -8,16 +8,16 @@ use crate::sheet::numbers_at;
 use crate::words::end_of;
 use crate::words::start_of;
 
-// The verdicts, which are added up.
+// The verdicts. They are added up for a file, which has fewer than 2097152 lines, so that the sum tells how many there are of each.
 const NO_CASE: u64 = 0;
 
 const AGREES: u64 = 1;
 
-const DIFFERS: u64 = 2097152;
+pub(crate) const DIFFERS: u64 = 2097152;
 
-const UNREAD: u64 = 4398046511104;
+pub(crate) const UNREAD: u64 = 4398046511104;
 
-// Prints a text of bytes with up to three numbers, each in the place of a `%`.
+// Prints a text with up to three numbers, each in the place of a `%`.
 pub(crate) fn say(text: &[u8], first: u64, second: u64, third: u64) {
     let mut a = first;
     let mut b = second;

@@ -6,10 +6,10 @@ use Rattle.cases.proofs.files.run_lines.Statement.{statement}
 use Rattle.cases.proofs.files.run_lines.Tie as tie
 
 abbrev Inv-loop : tie.InvT-loop
-Inv-loop text sheet₀ sum₀ number₀ at₀ t7 sheet sum number at = (number ≤ at) × (at ≤ length text)
+Inv-loop text sheet₀ sum₀ number₀ at₀ sheet sum number at = (number ≤ at) × (at ≤ length text)
 
 abbrev μ-loop : tie.MeasureT-loop
-μ-loop text sheet₀ sum₀ number₀ at₀ t7 sheet sum number at = length text - at
+μ-loop text sheet₀ sum₀ number₀ at₀ sheet sum number at = length text - at
 
 pub run-lines-spec : {M : Type 1} → statement M
-run-lines-spec = tie.close (tie.spec Inv-loop μ-loop (λ c. search needs) (λ c κs. search needs) (λ c. search needs) (λ c. search needs) (λ c. search needs) (λ c. search needs) (λ c κs. search needs) (λ c κs. search needs) (λ c. search needs) (λ c. search needs) (λ c. search needs) (λ c κs. search needs) (λ c. search needs))
+run-lines-spec = tie.close (tie.spec Inv-loop μ-loop (λ c. search needs) (λ c κs. search needs) (λ c. search needs) (λ c. search needs) (λ c. search needs) (λ c. search needs) (λ c κs. search needs) (λ c κs. search needs) (λ c. search needs) (λ c. search needs) (λ c κs. search needs) (λ c. search needs))
