@@ -1,13 +1,12 @@
 // Calls that halve a grid: `width height depth / weights / splits / ids`, with the layers behind the height in 3D, where the last
 // two parts are what the slices hold before.
 use crate::calls::small;
+use crate::sheet::least;
 use crate::sheet::numbers_at;
 use crate::sheet::put;
 use rules::Halving2;
 use rules::Halving3;
-
-// What a call gives whose slices do not fit their rooms: no number of refusal.
-const NO_ROOM: u32 = 4294967295;
+ghost use Prim.Native.Nat.{_<_};
 
 // Where the head of a sheet says where the parts of a request start.
 const FIRST: usize = 4;
@@ -19,16 +18,17 @@ const SPLITS: usize = 6;
 const IDS: usize = 7;
 
 // Puts the numbers of a part into a room; how many there are.
-fn narrowed(sheet: &[u64], said: usize, room: &mut [u32; 65536]) -> usize {
+fn narrowed(sheet: &[u64], said: usize, room: &mut [u32; 65536]) -> usize
+    requires { ⌜ said < 15 ⌝ }
+{
     let part = numbers_at(sheet, said);
+    let n = least(part.len(), 65536);
     let mut i: usize = 0;
-    while i < part.len() {
-        if i < 65536 {
-            room[i] = small(part[i]);
-        }
+    while i < n {
+        room[i] = small(part[i]);
         i += 1;
     }
-    i
+    n
 }
 
 fn wide(x: u32) -> u64 {
@@ -36,12 +36,14 @@ fn wide(x: u32) -> u64 {
 }
 
 // Puts as many numbers of a room on the sheet as a part has.
-fn put_first(room: &[u32; 65536], said: usize, sheet: &mut [u64; 331776]) {
-    let n = numbers_at(sheet, said).len();
-    for i in 0..65536usize {
-        if i < n {
-            put(sheet, 1, wide(room[i]));
-        }
+fn put_first(room: &[u32; 65536], said: usize, sheet: &mut [u64; 331776])
+    requires { ⌜ said < 15 ⌝ }
+{
+    let n = least(numbers_at(sheet, said).len(), 65536);
+    let mut i: usize = 0;
+    while i < n {
+        put(sheet, 1, wide(room[i]));
+        i += 1;
     }
 }
 
@@ -77,17 +79,13 @@ fn halve(first: &[u64], weights: &[u64], splits: &mut [u32], ids: &mut [u32]) ->
 
 // Halves with the first s splits and c ids of the rooms.
 fn halve_first(sheet: &[u64], splits: &mut [u32], s: usize, ids: &mut [u32], c: usize) -> u32 {
-    if splits.len() < s {
-        return NO_ROOM;
-    }
-    if ids.len() < c {
-        return NO_ROOM;
-    }
+    let most_splits = least(s, splits.len());
+    let most_ids = least(c, ids.len());
     halve(
         numbers_at(sheet, FIRST),
         numbers_at(sheet, WEIGHTS),
-        &mut splits[..s],
-        &mut ids[..c],
+        &mut splits[..most_splits],
+        &mut ids[..most_ids],
     )
 }
 

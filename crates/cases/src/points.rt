@@ -3,12 +3,10 @@
 use crate::calls::small;
 use crate::floats::float;
 use crate::sheet::FIRST;
-use crate::sheet::NEXT;
+use crate::sheet::least;
+use crate::sheet::place;
 use crate::sheet::put;
 ghost use Prim.Native.Nat.{_<_};
-
-// What a call gives whose slices do not stand where they should: no number of refusal.
-const NO_ROOM: u32 = 4294967295;
 
 // Where the head of a sheet says where the parts of a request start.
 const XS: usize = 5;
@@ -26,16 +24,10 @@ fn floats(sheet: &[u64; 331776], points: &mut [f64; 256]) {
 
 // The floats from the place that the head of a sheet says at `said` to before the one that it says next.
 fn floats_at<'a>(points: &'a [f64], sheet: &[u64; 331776], said: usize) -> &'a [f64]
-    requires { ⌜ said < 16 ⌝ }
+    requires { ⌜ said < 15 ⌝ }
 {
-    let start = sheet[said] as usize;
-    let end = sheet[said + 1] as usize;
-    if points.len() < end {
-        return &points[..0];
-    }
-    if end < start {
-        return &points[..0];
-    }
+    let end = least(place(sheet, said + 1), points.len());
+    let start = least(place(sheet, said), end);
     &points[start..end]
 }
 
@@ -67,13 +59,9 @@ fn index_into(
     start: usize,
     end: usize,
 ) -> u32 {
-    if sheet.len() < end {
-        return NO_ROOM;
-    }
-    if end < start {
-        return NO_ROOM;
-    }
-    indices_of(request, order, xs, ys, zs, &mut sheet[start..end])
+    let to = least(end, sheet.len());
+    let from = least(start, to);
+    indices_of(request, order, xs, ys, zs, &mut sheet[from..to])
 }
 
 // Indexes the points of a sheet, into the numbers from `start` to before `end`.
@@ -106,10 +94,10 @@ fn put_answer(number: u32, start: usize, end: usize, sheet: &mut [u64; 331776]) 
 
 // index_2d and index_3d; the head of the sheet says at `last` where the indices start.
 pub(crate) fn index(request: u64, last: usize, sheet: &mut [u64; 331776])
-    requires { ⌜ last < 16 ⌝ }
+    requires { ⌜ last < 15 ⌝ }
 {
-    let start = sheet[last] as usize;
-    let end = sheet[last + 1] as usize;
+    let start = place(sheet, last);
+    let end = place(sheet, last + 1);
     let mut points = [0.0f64; 256];
     floats(sheet, &mut points);
     let number = index_points(request, &points, sheet, start, end);

@@ -1,6 +1,7 @@
 // A case on a sheet of numbers: in the head where things stand, then the numbers of the line, which are the parts of the request one
 // after the other and what is wanted, and behind them the answer.
 use crate::numbers::UNKNOWN;
+ghost use Prim.Native.Nat.{_≤_, _<_};
 
 // The head. At WANTED it says where what is wanted starts (0 before `=`), then where the answer starts, where the next number goes, how
 // many parts have ended and, from FIRST_PART on, where each part starts.
@@ -58,21 +59,28 @@ pub(crate) fn end_part(sheet: &mut [u64; 331776], last: bool) -> bool {
     true
 }
 
+// The lesser of two places.
+pub(crate) fn least(a: usize, b: usize) -> usize
+    ensures { λ r. ⌜ (r ≤ a) × (r ≤ b) ⌝ }
+{
+    if a < b { a } else { b }
+}
+
 // The numbers from the place that the head says at `said` to before the one that it says next.
-pub(crate) fn numbers_at(sheet: &[u64], said: usize) -> &[u64] {
-    if sheet.len() <= 16 {
+pub(crate) fn numbers_at(sheet: &[u64], said: usize) -> &[u64]
+    requires { ⌜ said < 15 ⌝ }
+{
+    if sheet.len() < 16 {
         return sheet;
     }
-    if 15 <= said {
-        return sheet;
-    }
-    let start = sheet[said] as usize;
-    let end = sheet[said + 1] as usize;
-    if sheet.len() < end {
-        return &sheet[..0];
-    }
-    if end < start {
-        return &sheet[..0];
-    }
+    let end = least(sheet[said + 1] as usize, sheet.len());
+    let start = least(sheet[said] as usize, end);
     &sheet[start..end]
+}
+
+// The place that the head says at `said`.
+pub(crate) fn place(sheet: &[u64; 331776], said: usize) -> usize
+    requires { ⌜ said < 16 ⌝ }
+{
+    sheet[said] as usize
 }
