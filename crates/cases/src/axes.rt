@@ -1,87 +1,61 @@
 // Calls of an axis: a cell of a value, on an axis that is made first or on a record that is made up, and the low and high of points.
-use crate::answer::Answer;
-use crate::answer::small;
-use crate::answer::two;
+// A float comes as its bits.
+use crate::calls::small;
 use crate::floats::bits;
 use crate::floats::float;
 use rules::Axis;
 use rules::AxisAnswer;
 use rules::CellAnswer;
 
-// The refusal of an axis, handed on for the cell that was asked for.
-fn handed_on(answer: AxisAnswer) -> CellAnswer {
+// The axis of a request.
+fn axis_of(request: u64, low: f64, high: f64, order: u32, factor: f64) -> AxisAnswer {
+    match request {
+        613 => axis::make_axis_default(low, high),
+        614 => axis::make_axis(low, high, order),
+        714 => AxisAnswer::Made(Axis::Flat { low, high, order }),
+        _ => AxisAnswer::Made(Axis::Sloped {
+            low,
+            high,
+            order,
+            factor,
+        }),
+    }
+}
+
+// The cell of a value on an axis, or the refusal of the axis.
+fn cell_on(answer: AxisAnswer, value: f64) -> CellAnswer {
     match answer {
-        AxisAnswer::Made(_) => CellAnswer::Refused(0),
+        AxisAnswer::Made(axis) => axis::cell(axis, value),
         AxisAnswer::Refused(number) => CellAnswer::Refused(number),
     }
 }
 
-// The cell of a value on an axis, if it was made.
-fn cell_on(answer: AxisAnswer, value: f64) -> CellAnswer {
-    let AxisAnswer::Made(axis) = answer else {
-        return handed_on(answer);
-    };
-    axis::cell(axis, value)
-}
-
-// Answers with the number and the cell.
-fn found(answer: CellAnswer, out: &mut [u64; 69632]) -> Answer {
-    match answer {
-        CellAnswer::Cell(cell) => two(out, 0, cell),
-        CellAnswer::Refused(number) => two(out, number as u64, 0),
+// cell LOW HIGH [ORDER] VALUE, cell_flat LOW HIGH ORDER VALUE and cell_sloped LOW HIGH ORDER FACTOR VALUE, answered by the number and
+// the cell.
+pub(crate) fn cell(
+    request: u64,
+    low: u64,
+    high: u64,
+    order: u64,
+    factor: u64,
+    value: u64,
+) -> [u64; 5] {
+    let axis = axis_of(
+        request,
+        float(low),
+        float(high),
+        small(order),
+        float(factor),
+    );
+    let found = cell_on(axis, float(value));
+    match found {
+        CellAnswer::Cell(cell) => [2, 0, cell, 0, 0],
+        CellAnswer::Refused(number) => [2, number as u64, 0, 0, 0],
     }
 }
 
-// cell LOW HIGH VALUE
-fn cell_default(n: &[u64], out: &mut [u64; 69632]) -> Answer {
-    if n.len() != 3 {
-        return Answer::Misfit;
-    }
-    let made = axis::make_axis_default(float(n[0]), float(n[1]));
-    found(cell_on(made, float(n[2])), out)
-}
-
-// cell LOW HIGH ORDER VALUE
-pub(crate) fn cell(n: &[u64], out: &mut [u64; 69632]) -> Answer {
-    if n.len() != 4 {
-        return cell_default(n, out);
-    }
-    let made = axis::make_axis(float(n[0]), float(n[1]), small(n[2]));
-    found(cell_on(made, float(n[3])), out)
-}
-
-// cell_flat LOW HIGH ORDER VALUE
-pub(crate) fn cell_flat(n: &[u64], out: &mut [u64; 69632]) -> Answer {
-    if n.len() != 4 {
-        return Answer::Misfit;
-    }
-    let record = Axis::Flat {
-        low: float(n[0]),
-        high: float(n[1]),
-        order: small(n[2]),
-    };
-    found(axis::cell(record, float(n[3])), out)
-}
-
-// cell_sloped LOW HIGH ORDER FACTOR VALUE
-pub(crate) fn cell_sloped(n: &[u64], out: &mut [u64; 69632]) -> Answer {
-    if n.len() != 5 {
-        return Answer::Misfit;
-    }
-    let record = Axis::Sloped {
-        low: float(n[0]),
-        high: float(n[1]),
-        order: small(n[2]),
-        factor: float(n[3]),
-    };
-    found(axis::cell(record, float(n[4])), out)
-}
-
-// extent_of VALUE VALUE
-pub(crate) fn extent_of(n: &[u64], out: &mut [u64; 69632]) -> Answer {
-    if n.len() != 2 {
-        return Answer::Misfit;
-    }
-    let extent = axis::extent_of(&[float(n[0]), float(n[1])]);
-    two(out, bits(extent.low), bits(extent.high))
+// extent_of VALUE VALUE, answered by the low and the high.
+pub(crate) fn extent_of(a: u64, b: u64) -> [u64; 5] {
+    let extent = axis::extent_of(&[float(a), float(b)]);
+    [2, bits(extent.low), bits(extent.high), 0, 0]
 }

@@ -1,76 +1,98 @@
-// The calls by their names.
-use crate::answer::Answer;
-use crate::axes;
-use crate::curves;
+// The calls by their names. A request is told by one number: that of the call's name in the list, a digit for the parts of the request
+// and one for the numbers of its first part. So `encode_2d 1 0 1 = ..` is 213.
+//
+// A call that answers a few numbers answers an array: how many there are, and the numbers.
+use crate::axes::cell;
+use crate::axes::extent_of;
+use crate::curves::decode_2d;
+use crate::curves::decode_3d;
+use crate::curves::encode;
 use crate::grids;
 use crate::points;
-use crate::words::same;
+use crate::sheet::ANSWERED;
+use crate::sheet::FIRST_PART;
+use crate::sheet::NEXT;
+use crate::sheet::PARTS;
+use crate::sheet::WANTED;
+use crate::sheet::numbers_at;
+use crate::sheet::put;
+use crate::words::number_in;
 
-// Carries out a call of the curve or of an axis, whose request has one part.
-fn short(name: &[u8], n: &[u64], out: &mut [u64; 69632]) -> Answer {
-    if same(name, b"deposit") {
-        return curves::deposit(n, out);
-    }
-    if same(name, b"encode_2d") {
-        return curves::encode_2d(n, out);
-    }
-    if same(name, b"encode_3d") {
-        return curves::encode_3d(n, out);
-    }
-    if same(name, b"decode_2d") {
-        return curves::decode_2d(n, out);
-    }
-    if same(name, b"decode_3d") {
-        return curves::decode_3d(n, out);
-    }
-    on_axis(name, n, out)
+// An order, side or depth; anything larger is refused all the same.
+pub(crate) fn small(n: u64) -> u32 {
+    if n < 4294967295 { n as u32 } else { 4294967295 }
 }
 
-// Carries out a call of an axis; a name that is none fits no call.
-fn on_axis(name: &[u8], n: &[u64], out: &mut [u64; 69632]) -> Answer {
-    if same(name, b"cell") {
-        return axes::cell(n, out);
+// A number with a digit behind it; 0 where that is no digit.
+fn with_digit(number: u64, digit: u64) -> u64 {
+    if 9 < digit {
+        return 0;
     }
-    if same(name, b"cell_flat") {
-        return axes::cell_flat(n, out);
+    if 1000000 < number {
+        return 0;
     }
-    if same(name, b"cell_sloped") {
-        return axes::cell_sloped(n, out);
-    }
-    if same(name, b"extent_of") {
-        return axes::extent_of(n, out);
-    }
-    Answer::Misfit
+    10 * number + digit
 }
 
-// Carries out the call of a name, whose request has so many parts.
-pub(crate) fn call(
-    name: &[u8],
-    numbers: &[u64],
-    ends: &[usize; 8],
-    parts: usize,
-    splits: &mut [u32; 65536],
-    ids: &mut [u32; 65536],
-    out: &mut [u64; 69632],
-) -> Answer {
-    if parts == 1 {
-        return short(name, crate::answer::part(numbers, ends, 0), out);
+// The number that tells a request; one that is not ended has no parts.
+fn request_of(name: &[u8], sheet: &[u64; 331776]) -> u64 {
+    let call = number_in(
+        b"deposit encode_2d encode_3d decode_2d decode_3d cell cell_flat cell_sloped extent_of rcb_2d rcb_3d index_2d index_3d",
+        name,
+    );
+    if sheet[WANTED] == 0 {
+        return 0;
     }
-    if same(name, b"rcb_2d") {
-        return grids::rcb(3, numbers, ends, parts, splits, ids, out);
+    let first = numbers_at(sheet, FIRST_PART).len() as u64;
+    with_digit(with_digit(call, sheet[PARTS]), first)
+}
+
+// Answers a request that is one part of up to five numbers.
+fn few(request: u64, a: u64, b: u64, c: u64, d: u64, e: u64) -> [u64; 5] {
+    match request {
+        112 => [1, curve::deposit(a, b), 0, 0, 0],
+        212 | 213 | 313 | 314 => encode(request, a, b, c, d),
+        411 | 412 => decode_2d(request, a, b),
+        511 | 512 => decode_3d(request, a, b),
+        613 => cell(request, a, b, 0, 0, c),
+        614 | 714 => cell(request, a, b, c, 0, d),
+        815 => cell(request, a, b, c, d, e),
+        912 => extent_of(a, b),
+        _ => [0, 0, 0, 0, 0],
     }
-    if same(name, b"rcb_3d") {
-        return grids::rcb(4, numbers, ends, parts, splits, ids, out);
-    }
-    if same(name, b"index_2d") {
-        if parts == 4 {
-            return points::index(numbers, ends, 3, false, out);
+}
+
+// Puts the numbers of an answer on the sheet.
+fn put_few(answer: [u64; 5], sheet: &mut [u64; 331776]) {
+    let count = answer[0] as usize;
+    for i in 1..5usize {
+        if i <= count {
+            put(sheet, 1, answer[i]);
         }
     }
-    if same(name, b"index_3d") {
-        if parts == 5 {
-            return points::index(numbers, ends, 4, true, out);
-        }
+}
+
+// Carries out a request that is one part.
+fn call_few(request: u64, sheet: &mut [u64; 331776]) {
+    let answer = few(
+        request,
+        sheet[16],
+        sheet[17],
+        sheet[18],
+        sheet[19],
+        sheet[20],
+    );
+    put_few(answer, sheet);
+}
+
+// Carries out the call of a name with the request on the sheet, and puts the answer there.
+pub(crate) fn call(name: &[u8], sheet: &mut [u64; 331776]) {
+    let request = request_of(name, sheet);
+    sheet[ANSWERED] = sheet[NEXT];
+    match request {
+        1043 | 1144 => grids::rcb(sheet),
+        1240 | 1241 => points::index(request, 7, sheet),
+        1350 | 1351 => points::index(request, 8, sheet),
+        _ => call_few(request, sheet),
     }
-    Answer::Misfit
 }

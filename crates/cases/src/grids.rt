@@ -1,131 +1,110 @@
 // Calls that halve a grid: `width height depth / weights / splits / ids`, with the layers behind the height in 3D, where the last
 // two parts are what the slices hold before.
-use crate::answer::Answer;
-use crate::answer::part;
-use crate::answer::small;
+use crate::calls::small;
+use crate::sheet::least;
+use crate::sheet::numbers_at;
+use crate::sheet::put;
 use rules::Halving2;
 use rules::Halving3;
+ghost use Prim.Native.Nat.{_<_};
 
-// What a call gives whose slices do not fit their rooms: no number of refusal.
-const NO_ROOM: u32 = 4294967295;
+// Where the head of a sheet says where the parts of a request start.
+const SIDES: usize = 4;
 
-// Puts the numbers of a part into a room.
-fn narrowed(n: &[u64], room: &mut [u32; 65536]) {
+const WEIGHTS: usize = 5;
+
+const SPLITS: usize = 6;
+
+const IDS: usize = 7;
+
+// Puts the numbers of a part into a room; how many there are room for.
+fn narrowed(sheet: &[u64], said: usize, room: &mut [u32; 65536]) -> usize
+    requires { ⌜ said < 15 ⌝ }
+{
+    let part = numbers_at(sheet, said);
+    let n = least(part.len(), 65536);
     let mut i: usize = 0;
-    while i < n.len() {
-        if i < 65536 {
-            room[i] = small(n[i]);
-        }
+    while i < n {
+        room[i] = small(part[i]);
         i += 1;
     }
+    n
 }
 
 fn wide(x: u32) -> u64 {
     x as u64
 }
 
-// Puts the first n numbers of a room into an answer from `at` on; the place after them.
-fn widened(room: &[u32; 65536], n: usize, out: &mut [u64; 69632], at: usize) -> usize {
-    let mut next = at;
-    for i in 0..65536usize {
-        if i < n {
-            if next < 69632 {
-                out[next] = wide(room[i]);
-                next += 1;
-            }
-        }
+// Puts as many numbers of a room on the sheet as a part has, and none where the part had no room, so that no case agrees with that.
+fn put_first(room: &[u32; 65536], said: usize, sheet: &mut [u64; 331776])
+    requires { ⌜ said < 15 ⌝ }
+{
+    let n = numbers_at(sheet, said).len();
+    if 65536 < n {
+        return;
     }
-    next
+    let mut i: usize = 0;
+    while i < n {
+        put(sheet, 1, wide(room[i]));
+        i += 1;
+    }
 }
 
-// Halves in 2D, with the first s splits and c ids of the rooms.
-fn halve_2d(
-    halving: Halving2,
-    weights: &[u64],
-    splits: &mut [u32],
-    s: usize,
-    ids: &mut [u32],
-    c: usize,
-) -> u32 {
-    if splits.len() < s {
-        return NO_ROOM;
+// Side k of a request, the depth behind the sides; 0 where there is none.
+fn side(sides: &[u64], k: usize) -> u32 {
+    if k < sides.len() {
+        return small(sides[k]);
     }
-    if ids.len() < c {
-        return NO_ROOM;
-    }
-    halving::rcb_2d(halving, weights, &mut splits[..s], &mut ids[..c])
+    0
 }
 
-// Halves in 3D, with the first s splits and c ids of the rooms.
-fn halve_3d(
-    halving: Halving3,
-    weights: &[u64],
-    splits: &mut [u32],
-    s: usize,
-    ids: &mut [u32],
-    c: usize,
-) -> u32 {
-    if splits.len() < s {
-        return NO_ROOM;
-    }
-    if ids.len() < c {
-        return NO_ROOM;
-    }
-    halving::rcb_3d(halving, weights, &mut splits[..s], &mut ids[..c])
-}
-
-// Halves by the first part of the request.
-fn halved(
-    n: &[u64],
-    weights: &[u64],
-    splits: &mut [u32; 65536],
-    s: usize,
-    ids: &mut [u32; 65536],
-    c: usize,
-) -> u32 {
-    if n.len() == 3 {
+// Halves by the first part of the request, the sides and the depth: in 2D where it has three numbers.
+fn halve(sides: &[u64], weights: &[u64], splits: &mut [u32], ids: &mut [u32]) -> u32 {
+    let width = side(sides, 0);
+    let height = side(sides, 1);
+    let third = side(sides, 2);
+    if sides.len() == 3 {
         let halving = Halving2 {
-            width: small(n[0]),
-            height: small(n[1]),
-            depth: small(n[2]),
+            width,
+            height,
+            depth: third,
         };
-        return halve_2d(halving, weights, splits, s, ids, c);
+        return halving::rcb_2d(halving, weights, splits, ids);
     }
-    if n.len() == 4 {
-        let halving = Halving3 {
-            width: small(n[0]),
-            height: small(n[1]),
-            layers: small(n[2]),
-            depth: small(n[3]),
-        };
-        return halve_3d(halving, weights, splits, s, ids, c);
-    }
-    NO_ROOM
+    let halving = Halving3 {
+        width,
+        height,
+        layers: third,
+        depth: side(sides, 3),
+    };
+    halving::rcb_3d(halving, weights, splits, ids)
 }
 
-// rcb_2d, whose first part has 3 numbers, and rcb_3d, whose first part has 4
-pub(crate) fn rcb(
-    sides_and_depth: usize,
-    numbers: &[u64],
-    ends: &[usize; 8],
-    parts: usize,
-    splits: &mut [u32; 65536],
-    ids: &mut [u32; 65536],
-    out: &mut [u64; 69632],
-) -> Answer {
-    let first = part(numbers, ends, 0);
-    let s = part(numbers, ends, 2).len();
-    let c = part(numbers, ends, 3).len();
-    if parts != 4 {
-        return Answer::Misfit;
-    }
-    if first.len() != sides_and_depth {
-        return Answer::Misfit;
-    }
-    narrowed(part(numbers, ends, 2), splits);
-    narrowed(part(numbers, ends, 3), ids);
-    let number = halved(first, part(numbers, ends, 1), splits, s, ids, c);
-    out[0] = number as u64;
-    let next = widened(splits, s, out, 1);
-    Answer::Numbers(widened(ids, c, out, next))
+// Halves with the first s splits and c ids of the rooms.
+fn halve_first(sheet: &[u64], splits: &mut [u32], s: usize, ids: &mut [u32], c: usize) -> u32 {
+    let most_splits = least(s, splits.len());
+    let most_ids = least(c, ids.len());
+    halve(
+        numbers_at(sheet, SIDES),
+        numbers_at(sheet, WEIGHTS),
+        &mut splits[..most_splits],
+        &mut ids[..most_ids],
+    )
+}
+
+// Halves in rooms for the splits and the ids.
+fn halve_in(sheet: &[u64], splits: &mut [u32; 65536], ids: &mut [u32; 65536]) -> u32 {
+    let s = narrowed(sheet, SPLITS, splits);
+    let c = narrowed(sheet, IDS, ids);
+    halve_first(sheet, splits, s, ids, c)
+}
+
+// rcb_2d and rcb_3d
+pub(crate) fn rcb(sheet: &mut [u64; 331776]) {
+    let mut splits = [0u32; 65536];
+    let mut ids = [0u32; 65536];
+    let number = halve_in(sheet, &mut splits, &mut ids);
+    put(sheet, 1, number as u64);
+    put_first(&splits, SPLITS, sheet);
+    put_first(&ids, IDS, sheet);
 }

@@ -1,118 +1,108 @@
 // Calls that index all points: `order / xs / ys / indices` or `order / xs / ys / zs / indices`, where the last part is what the
-// index slice holds before; without an order, the call that needs none.
-use crate::answer::Answer;
-use crate::answer::part;
-use crate::answer::small;
+// index slice holds before; without an order, the call that needs none. The points of a line are up to 240 numbers.
+use crate::calls::small;
 use crate::floats::float;
+use crate::sheet::FIRST;
+use crate::sheet::least;
+use crate::sheet::place;
+use crate::sheet::put;
+ghost use Prim.Native.Nat.{_<_};
 
-// What a call gives whose slices do not fit their rooms: no number of refusal.
-const NO_ROOM: u32 = 4294967295;
+// Where the head of a sheet says where the parts of a request start.
+const XS: usize = 5;
 
-// Puts the floats of a part into a room of 64; how many there are.
-fn floats(n: &[u64], xs: &mut [f64; 64]) -> usize {
-    let mut i: usize = 0;
-    while i < n.len() {
-        if i < 64 {
-            xs[i] = float(n[i]);
-        }
-        i += 1;
-    }
-    i
-}
+const YS: usize = 6;
 
-// Puts up to 64 numbers behind the first of an answer.
-fn behind(n: &[u64], out: &mut [u64; 69632]) {
-    let mut i: usize = 0;
-    while i < n.len() {
-        if i < 64 {
-            out[i + 1] = n[i];
-        }
-        i += 1;
+const ZS: usize = 7;
+
+// Reads the sheet's first numbers as floats.
+fn floats(sheet: &[u64; 331776], points: &mut [f64; 256]) {
+    for i in 0..256usize {
+        points[i] = float(sheet[i]);
     }
 }
 
-// Indexes the first a xs, b ys and, in 3D, c zs, by the order, or by none where there is none.
-fn file(
+// The floats from the place that the head of a sheet says at `said` to before the one that it says next.
+fn floats_at<'a>(points: &'a [f64], sheet: &[u64; 331776], said: usize) -> &'a [f64]
+    requires { ⌜ said < 15 ⌝ }
+{
+    let end = least(place(sheet, said + 1), points.len());
+    let start = least(place(sheet, said), end);
+    &points[start..end]
+}
+
+// The call of a request.
+fn indices_of(
+    request: u64,
+    order: u32,
     xs: &[f64],
-    a: usize,
     ys: &[f64],
-    b: usize,
     zs: &[f64],
-    c: usize,
-    order: &[u64],
-    solid: bool,
     indices: &mut [u64],
 ) -> u32 {
-    if xs.len() < a {
-        return NO_ROOM;
+    match request {
+        1240 => knots::index_2d_default(xs, ys, indices),
+        1241 => knots::index_2d(xs, ys, order, indices),
+        1350 => knots::index_3d_default(xs, ys, zs, indices),
+        _ => knots::index_3d(xs, ys, zs, order, indices),
     }
-    if ys.len() < b {
-        return NO_ROOM;
-    }
-    if zs.len() < c {
-        return NO_ROOM;
-    }
-    if order.len() == 0 {
-        if solid {
-            return knots::index_3d_default(&xs[..a], &ys[..b], &zs[..c], indices);
-        }
-        return knots::index_2d_default(&xs[..a], &ys[..b], indices);
-    }
-    let named = small(order[0]);
-    if solid {
-        return knots::index_3d(&xs[..a], &ys[..b], &zs[..c], named, indices);
-    }
-    knots::index_2d(&xs[..a], &ys[..b], named, indices)
 }
 
-// The same, into the m places of an answer behind its first.
-fn answer(
-    xs: &[f64; 64],
-    a: usize,
-    ys: &[f64; 64],
-    b: usize,
-    zs: &[f64; 64],
-    c: usize,
-    order: &[u64],
-    solid: bool,
-    out: &mut [u64],
-    m: usize,
+// Indexes points into the numbers from `start` to before `end`.
+fn index_into(
+    request: u64,
+    order: u32,
+    xs: &[f64],
+    ys: &[f64],
+    zs: &[f64],
+    sheet: &mut [u64],
+    start: usize,
+    end: usize,
 ) -> u32 {
-    if 64 < m {
-        return NO_ROOM;
-    }
-    let end = m + 1;
-    if out.len() < end {
-        return NO_ROOM;
-    }
-    file(xs, a, ys, b, zs, c, order, solid, &mut out[1..end])
+    let to = least(end, sheet.len());
+    let from = least(start, to);
+    indices_of(request, order, xs, ys, zs, &mut sheet[from..to])
 }
 
-// index_2d, whose indices are part 3, or index_3d, whose zs are part 3 and indices part 4
-pub(crate) fn index(
-    numbers: &[u64],
-    ends: &[usize; 8],
-    last: usize,
-    solid: bool,
-    out: &mut [u64; 69632],
-) -> Answer {
-    let order = part(numbers, ends, 0);
-    let held = part(numbers, ends, last);
-    let m = held.len();
-    if 1 < order.len() {
-        return Answer::Misfit;
+// Indexes the points of a sheet, into the numbers from `start` to before `end`.
+fn index_points(
+    request: u64,
+    points: &[f64; 256],
+    sheet: &mut [u64; 331776],
+    start: usize,
+    end: usize,
+) -> u32 {
+    let order = small(sheet[FIRST]);
+    let xs = floats_at(points, sheet, XS);
+    let ys = floats_at(points, sheet, YS);
+    let zs = floats_at(points, sheet, ZS);
+    index_into(request, order, xs, ys, zs, sheet, start, end)
+}
+
+// Answers by the number and the numbers from `start` to before `end`.
+fn put_answer(number: u32, start: usize, end: usize, sheet: &mut [u64; 331776]) {
+    put(sheet, 1, number as u64);
+    let mut i = start;
+    while i < end {
+        if i < 331776 {
+            let index = sheet[i];
+            put(sheet, 1, index);
+        }
+        i += 1;
     }
-    if 64 < m {
-        return Answer::Misfit;
+}
+
+// index_2d and index_3d; the head of the sheet says at `last` where the indices start. No answer where there is no room for the points.
+pub(crate) fn index(request: u64, last: usize, sheet: &mut [u64; 331776])
+    requires { ⌜ last < 15 ⌝ }
+{
+    let start = place(sheet, last);
+    let end = place(sheet, last + 1);
+    if 256 < start {
+        return;
     }
-    let mut xs = [0.0f64; 64];
-    let mut ys = [0.0f64; 64];
-    let mut zs = [0.0f64; 64];
-    let a = floats(part(numbers, ends, 1), &mut xs);
-    let b = floats(part(numbers, ends, 2), &mut ys);
-    let c = floats(part(numbers, ends, 3), &mut zs);
-    behind(held, out);
-    let number = answer(&xs, a, &ys, b, &zs, c, order, solid, out, m);
-    out[0] = number as u64;
-    Answer::Numbers(m + 1)
+    let mut points = [0.0f64; 256];
+    floats(sheet, &mut points);
+    let number = index_points(request, &points, sheet, start, end);
+    put_answer(number, start, end, sheet);
 }

@@ -5,10 +5,10 @@ use Rattle.cases.proofs.main.Statement.{statement}
 use Rattle.cases.proofs.main.Tie as tie
 
 abbrev Inv-loop : tie.InvT-loop
-Inv-loop bytes₀ numbers₀ splits₀ ids₀ out₀ count i₀ bytes numbers splits ids out i = Unit {0}
+Inv-loop count i₀ i = Unit {0}
 
 abbrev μ-loop : tie.MeasureT-loop
-μ-loop bytes₀ numbers₀ splits₀ ids₀ out₀ count i₀ bytes numbers splits ids out i = count - i
+μ-loop count i₀ i = count - i
 
 pub main-spec : {M : Type 1} → statement M
 main-spec = tie.close (tie.spec Inv-loop μ-loop (λ c κs. search needs) (λ c. search needs) (λ c κs. search needs) (λ c. search needs) (λ c. search needs) (λ c. search needs) (λ c. search needs))

@@ -1,0 +1,14 @@
+-- The places passed are in the room.
+use Prim.Native.Nat.{_≤_, _-_}
+use borrow.Author.Needs.{needs}
+use Rattle.cases.proofs.grids.put_first.Statement.{statement}
+use Rattle.cases.proofs.grids.put_first.Tie as tie
+
+abbrev Inv-loop : tie.InvT-loop
+Inv-loop room said sheet₀ n i₀ sheet i = i ≤ n
+
+abbrev μ-loop : tie.MeasureT-loop
+μ-loop room said sheet₀ n i₀ sheet i = n - i
+
+pub put-first-spec : {M : Type 1} → statement M
+put-first-spec = tie.close (tie.spec Inv-loop μ-loop (λ c κs. search needs) (λ c. search needs) (λ c. search needs) (λ c. search needs) (λ c. search needs) (λ c κs. search needs) (λ c κs. search needs) (λ c. search needs) (λ c. search needs) (λ c. search needs) (λ c. search needs))
