@@ -9,7 +9,7 @@ use rules::Halving3;
 ghost use Prim.Native.Nat.{_<_};
 
 // Where the head of a sheet says where the parts of a request start.
-const FIRST: usize = 4;
+const SIDES: usize = 4;
 
 const WEIGHTS: usize = 5;
 
@@ -17,7 +17,7 @@ const SPLITS: usize = 6;
 
 const IDS: usize = 7;
 
-// Puts the numbers of a part into a room; how many there are.
+// Puts the numbers of a part into a room; how many there are room for.
 fn narrowed(sheet: &[u64], said: usize, room: &mut [u32; 65536]) -> usize
     requires { ⌜ said < 15 ⌝ }
 {
@@ -35,11 +35,14 @@ fn wide(x: u32) -> u64 {
     x as u64
 }
 
-// Puts as many numbers of a room on the sheet as a part has.
+// Puts as many numbers of a room on the sheet as a part has, and none where the part had no room, so that no case agrees with that.
 fn put_first(room: &[u32; 65536], said: usize, sheet: &mut [u64; 331776])
     requires { ⌜ said < 15 ⌝ }
 {
-    let n = least(numbers_at(sheet, said).len(), 65536);
+    let n = numbers_at(sheet, said).len();
+    if 65536 < n {
+        return;
+    }
     let mut i: usize = 0;
     while i < n {
         put(sheet, 1, wide(room[i]));
@@ -47,20 +50,20 @@ fn put_first(room: &[u32; 65536], said: usize, sheet: &mut [u64; 331776])
     }
 }
 
-// Side or depth k of a request.
-fn side(first: &[u64], k: usize) -> u32 {
-    if k < first.len() {
-        return small(first[k]);
+// Side k of a request, the depth behind the sides; 0 where there is none.
+fn side(sides: &[u64], k: usize) -> u32 {
+    if k < sides.len() {
+        return small(sides[k]);
     }
     0
 }
 
-// Halves by the first part of the request, in 2D where that has three numbers.
-fn halve(first: &[u64], weights: &[u64], splits: &mut [u32], ids: &mut [u32]) -> u32 {
-    let width = side(first, 0);
-    let height = side(first, 1);
-    let third = side(first, 2);
-    if first.len() == 3 {
+// Halves by the first part of the request, the sides and the depth: in 2D where it has three numbers.
+fn halve(sides: &[u64], weights: &[u64], splits: &mut [u32], ids: &mut [u32]) -> u32 {
+    let width = side(sides, 0);
+    let height = side(sides, 1);
+    let third = side(sides, 2);
+    if sides.len() == 3 {
         let halving = Halving2 {
             width,
             height,
@@ -72,7 +75,7 @@ fn halve(first: &[u64], weights: &[u64], splits: &mut [u32], ids: &mut [u32]) ->
         width,
         height,
         layers: third,
-        depth: side(first, 3),
+        depth: side(sides, 3),
     };
     halving::rcb_3d(halving, weights, splits, ids)
 }
@@ -82,7 +85,7 @@ fn halve_first(sheet: &[u64], splits: &mut [u32], s: usize, ids: &mut [u32], c: 
     let most_splits = least(s, splits.len());
     let most_ids = least(c, ids.len());
     halve(
-        numbers_at(sheet, FIRST),
+        numbers_at(sheet, SIDES),
         numbers_at(sheet, WEIGHTS),
         &mut splits[..most_splits],
         &mut ids[..most_ids],

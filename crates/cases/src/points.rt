@@ -1,5 +1,5 @@
 // Calls that index all points: `order / xs / ys / indices` or `order / xs / ys / zs / indices`, where the last part is what the
-// index slice holds before; without an order, the call that needs none. A line of them has up to 240 numbers.
+// index slice holds before; without an order, the call that needs none. The points of a line are up to 240 numbers.
 use crate::calls::small;
 use crate::floats::float;
 use crate::sheet::FIRST;
@@ -92,12 +92,15 @@ fn put_answer(number: u32, start: usize, end: usize, sheet: &mut [u64; 331776]) 
     }
 }
 
-// index_2d and index_3d; the head of the sheet says at `last` where the indices start.
+// index_2d and index_3d; the head of the sheet says at `last` where the indices start. No answer where there is no room for the points.
 pub(crate) fn index(request: u64, last: usize, sheet: &mut [u64; 331776])
     requires { ⌜ last < 15 ⌝ }
 {
     let start = place(sheet, last);
     let end = place(sheet, last + 1);
+    if 256 < start {
+        return;
+    }
     let mut points = [0.0f64; 256];
     floats(sheet, &mut points);
     let number = index_points(request, &points, sheet, start, end);

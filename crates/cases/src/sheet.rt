@@ -15,10 +15,10 @@ pub(crate) const PARTS: usize = 3;
 
 pub(crate) const FIRST_PART: usize = 4;
 
-// Where the numbers start.
+// Where the numbers start: 16, as they do on a sheet that begins.
 pub(crate) const FIRST: usize = 16;
 
-// Begins a sheet.
+// Begins a sheet: no number, and the first part starts.
 pub(crate) fn begin(sheet: &mut [u64; 331776]) {
     sheet[WANTED] = 0;
     sheet[NEXT] = 16;
