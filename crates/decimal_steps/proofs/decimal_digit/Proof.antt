@@ -4,8 +4,8 @@ use mathlib.Core.Path.{_≡_, sym, _∙_}
 use native.Mathlib.Omega.{arith}
 use Rattle.wholes.proofs.Digits.{digit-range}
 use borrow.Author.Needs.{needs}
-use Rattle.decimals.proofs.decimal_digit.Statement.{statement}
-use Rattle.decimals.proofs.decimal_digit.Tie as tie
+use Rattle.decimal_steps.proofs.decimal_digit.Statement.{statement}
+use Rattle.decimal_steps.proofs.decimal_digit.Tie as tie
 
 is-digit-requires : tie.Need-is-digit-requires
 is-digit-requires c κs = search needs
