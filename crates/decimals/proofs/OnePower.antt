@@ -6,7 +6,7 @@ use native.Mathlib.Nat.{mul-one}
 use native.Mathlib.Omega.{arith}
 use borrow.Author.Tests.{lt-ltb, le-ltb}
 use lib.Ieee.{Float, binary64, round}
-use Rattle.decimal_steps.specs.declared.Decimal.the-variants.{Value, Deep}
+use Rattle.decimals.specs.declared.Decimal.the-variants.{Value, Deep}
 use Rattle.decimals.specs.Decimals.{valueOf}
 
 none : (a b : ℕ) → a ≤ b → a - b ≡ 0

@@ -4,13 +4,24 @@
 // .5, 5., 2.4e1, 1E-05. `decimal_of` answers the f64 nearest to its exact value (`decimalOf`: one rounding of the digits times
 // or over a power of ten, ties to even), or the place of what stands wrong. Taken are up to 19 digits, nought in front not
 // counted, and with all of them before the point an exponent from -44 to 22.
-pub use decimal_steps::Decimal;
 use decimal_steps::Met;
 use decimal_steps::step;
+use exponents::Exponent;
 use ratio::over_tens;
 use ratio::times_tens;
 ghost use mathlib.Core.Path.{_≡_};
-ghost use Rattle.decimals.specs.Decimals.{valueOf, endOf, decimalOf};
+ghost use Rattle.decimals.specs.Decimals.{valueOf, poweredOf, endOf, decimalOf};
+
+// A word read as a decimal: its value, or the place of a byte that stands wrong, of a 20th digit, of a place too deep behind the
+// point, of one too high before it, or of the end where a digit is missing.
+pub enum Decimal {
+    Value(f64),
+    Odd(usize),
+    Long(usize),
+    Deep(usize),
+    High(usize),
+    Short(usize),
+}
 
 // digits * 10^up / 10^down, in a word that ends at `at`.
 fn value(negative: bool, digits: u64, up: u64, down: u64, at: usize) -> Decimal
@@ -30,6 +41,29 @@ fn value(negative: bool, digits: u64, up: u64, down: u64, at: usize) -> Decimal
     Decimal::Value(over_tens(negative, digits, places as u32))
 }
 
+// What a word is that ends at `at` with an exponent.
+fn powered(negative: bool, digits: u64, decimals: u32, exponent: Exponent, at: usize) -> Decimal
+    ensures { λ r. ⌜ r ≡ poweredOf negative digits decimals exponent at ⌝ }
+{
+    match exponent {
+        Exponent::Start => Decimal::Short(at),
+        Exponent::Sign(_) => Decimal::Short(at),
+        Exponent::Digits(down, power) => {
+            if down {
+                return value(negative, digits, 0, decimals as u64 + power as u64, at);
+            }
+            value(negative, digits, power as u64, decimals as u64, at)
+        }
+        Exponent::Odd(place) => Decimal::Odd(place),
+        Exponent::Far(down, place) => {
+            if down {
+                return Decimal::Deep(place);
+            }
+            Decimal::High(place)
+        }
+    }
+}
+
 // What a word is that ends at `at`.
 fn end(met: Met, at: usize) -> Decimal
     ensures { λ r. ⌜ r ≡ endOf met at ⌝ }
@@ -42,15 +76,12 @@ fn end(met: Met, at: usize) -> Decimal
         Met::Decimals(negative, digits, decimals) => {
             value(negative, digits, 0, decimals as u64, at)
         }
-        Met::Mark(_, _, _) => Decimal::Short(at),
-        Met::MarkSign(_, _, _, _) => Decimal::Short(at),
-        Met::Exponent(negative, digits, decimals, down, exponent) => {
-            if down {
-                return value(negative, digits, 0, decimals as u64 + exponent as u64, at);
-            }
-            value(negative, digits, exponent as u64, decimals as u64, at)
+        Met::Mark(negative, digits, decimals, exponent) => {
+            powered(negative, digits, decimals, exponent, at)
         }
-        Met::Wrong(what) => what,
+        Met::Odd(place) => Decimal::Odd(place),
+        Met::Long(place) => Decimal::Long(place),
+        Met::Deep(place) => Decimal::Deep(place),
     }
 }
 

@@ -7,9 +7,6 @@ use borrow.Author.Needs.{needs}
 use Rattle.decimal_steps.proofs.decimal_digit.Statement.{statement}
 use Rattle.decimal_steps.proofs.decimal_digit.Tie as tie
 
-is-digit-requires : tie.Need-is-digit-requires
-is-digit-requires c κs = search needs
-
 returns : tie.Need-returns
 returns c = simp (sym (c .before .is-digit .ensures) ∙ not-true _ (c .if1 .taken))
 
@@ -19,20 +16,8 @@ returns-2 c = simp (sym (c .before .before .is-digit .ensures) ∙ not-false _ (
 returns-3 : tie.Need-returns-3
 returns-3 c = simp (sym (c .before .before .before .is-digit .ensures) ∙ not-false _ (c .before .before .if1 .left), le-ltb _ _ (c .before .if2 .left), lt-ltb _ _ (c .if3 .taken))
 
-mul-t11 : tie.Need-mul-t11
-mul-t11 c = search needs
-
-sub-t12 : tie.Need-sub-t12
-sub-t12 c = omega (arith, digit-range (c .before .before .before .before .args .b) (sym (c .before .before .before .is-digit .ensures) ∙ not-false _ (c .before .before .if1 .left)))
-
-cast-t13 : tie.Need-cast-t13
-cast-t13 c = search needs
-
-add-t14 : tie.Need-add-t14
-add-t14 c = search needs
-
-add-t15 : tie.Need-add-t15
-add-t15 c = search needs
+sub-t9 : tie.Need-sub-t9
+sub-t9 c = omega (arith, digit-range (c .before .before .before .before .args .b) (sym (c .before .before .before .is-digit .ensures) ∙ not-false _ (c .before .before .if1 .left)))
 
 returns-4 : tie.Need-returns-4
 returns-4 c = simp (sym (c .before .before .before .is-digit .ensures) ∙ not-false _ (c .before .before .if1 .left), le-ltb _ _ (c .before .if2 .left), le-ltb _ _ (c .if3 .left))
@@ -41,13 +26,13 @@ pub decimal-digit-spec : {M : Type 1} → statement M
 decimal-digit-spec =
     tie.close
     (tie.spec
-    is-digit-requires
+    (λ c κs. search needs)
     returns
     returns-2
     returns-3
-    mul-t11
-    sub-t12
-    cast-t13
-    add-t14
-    add-t15
+    (λ c. search needs)
+    sub-t9
+    (λ c. search needs)
+    (λ c. search needs)
+    (λ c. search needs)
     returns-4)

@@ -26,15 +26,15 @@ returns-5 c = rw (c .before .before .met4 .given .1) (c .decimal-byte .ensures)
 
 returns-6 : tie.Need-returns-6
 unfolding metStep
-returns-6 c = rw (c .before .before .met5 .given .1) (c .mark-byte .ensures)
+returns-6 c = rw (c .before .before .met5 .given .1, c .exponent-step .ensures)
 
 returns-7 : tie.Need-returns-7
 unfolding metStep
-returns-7 c = rw (c .before .before .met6 .given .1) (c .exponent-digit .ensures)
+returns-7 c = rw (c .before .met6 .given .1)
 
 returns-8 : tie.Need-returns-8
 unfolding metStep
-returns-8 c = rw (c .before .before .met7 .given .1) (c .exponent-digit2 .ensures)
+returns-8 c = rw (c .before .met7 .given .1)
 
 returns-9 : tie.Need-returns-9
 unfolding metStep
@@ -57,9 +57,7 @@ step-spec =
     (λ c. search needs)
     (λ c κs. search needs)
     (λ c. search needs)
-    (λ c κs. search needs)
     (λ c. search needs)
-    (λ c κs. search needs)
     (λ c. search needs)
     returns
     returns-2

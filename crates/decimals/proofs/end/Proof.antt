@@ -6,43 +6,39 @@ use Rattle.decimals.proofs.end.Tie as tie
 
 returns : tie.Need-returns
 unfolding endOf
-returns c = rw (c .before .before .before .met3 .given .1, c .before .if1 .taken) (c .value3 .ensures)
+returns c = rw (c .enum-told .given .1)
 
 returns-2 : tie.Need-returns-2
 unfolding endOf
-returns-2 c = rw (c .enum-told .given .1)
+returns-2 c = rw (c .enum-told2 .given .1)
 
 returns-3 : tie.Need-returns-3
 unfolding endOf
-returns-3 c = rw (c .enum-told2 .given .1)
+returns-3 c = rw (c .before .before .met .given .1) (c .value .ensures)
 
 returns-4 : tie.Need-returns-4
 unfolding endOf
-returns-4 c = rw (c .before .before .met .given .1) (c .value .ensures)
+returns-4 c = rw (c .enum-told3 .given .1)
 
 returns-5 : tie.Need-returns-5
 unfolding endOf
-returns-5 c = rw (c .enum-told3 .given .1)
+returns-5 c = rw (c .before .before .met2 .given .1) (c .value2 .ensures)
 
 returns-6 : tie.Need-returns-6
 unfolding endOf
-returns-6 c = rw (c .before .before .met2 .given .1) (c .value2 .ensures)
+returns-6 c = rw (c .before .before .met3 .given .1) (c .powered .ensures)
 
 returns-7 : tie.Need-returns-7
 unfolding endOf
-returns-7 c = rw (c .enum-told4 .given .1)
+returns-7 c = rw (c .before .met4 .given .1)
 
 returns-8 : tie.Need-returns-8
 unfolding endOf
-returns-8 c = rw (c .enum-told5 .given .1)
+returns-8 c = rw (c .before .met5 .given .1)
 
 returns-9 : tie.Need-returns-9
 unfolding endOf
-returns-9 c = rw (c .before .before .before .met3 .given .1, c .before .if1 .left) (c .value4 .ensures)
-
-returns-10 : tie.Need-returns-10
-unfolding endOf
-returns-10 c = rw (c .before .met4 .given .1)
+returns-9 c = rw (c .before .met6 .given .1)
 
 pub end-spec : {M : Type 1} → statement M
 end-spec =
@@ -57,17 +53,11 @@ end-spec =
     (λ c. search needs)
     (λ c κs. search needs)
     (λ c. search needs)
-    (λ c. search needs)
-    (λ c. search needs)
-    (λ c. search needs)
-    (λ c. search needs)
-    (λ c. search needs)
     (λ c κs. search needs)
+    (λ c. search needs)
+    (λ c. search needs)
+    (λ c. search needs)
     returns
-    (λ c. search needs)
-    (λ c. search needs)
-    (λ c κs. search needs)
-    (λ c. search needs)
     returns-2
     returns-3
     returns-4
@@ -75,5 +65,4 @@ end-spec =
     returns-6
     returns-7
     returns-8
-    returns-9
-    returns-10)
+    returns-9)
