@@ -66,8 +66,8 @@ fn times(parts: Parts, factor: u64, first: u64, second: u64) -> Parts
     }
 }
 
-// A number over first * second, times 2^shift, cut to a whole number from 2^54 on, and made odd where something was cut off: it
-// lies between the same two even numbers as the quotient, and rounds as the quotient does.
+// A number over first * second, times 2^shift, without its fraction, from 2^54 on; made odd where there is a fraction. It lies
+// between the same two even numbers as the quotient, and rounds as the quotient does.
 fn leading_digits(number: Parts, first: u64, second: u64) -> Marked
     requires { ⌜ Parted first second number × (0 < numberOf first second number) ⌝ }
     ensures { λ r. ⌜ Stands (numberOf first second number) (second * first) r ⌝ }
