@@ -21,23 +21,25 @@ pub const LONG: u8 = 2;
 
 pub const DEEP: u8 = 3;
 
-pub const NOT_FINITE: u8 = 4;
+pub const HIGH: u8 = 4;
 
-pub const COLUMNS: u8 = 5;
+pub const NOT_FINITE: u8 = 5;
 
-pub const RAGGED: u8 = 6;
+pub const COLUMNS: u8 = 6;
 
-pub const MANY: u8 = 7;
+pub const RAGGED: u8 = 7;
 
-pub const NO_WHOLE: u8 = 8;
+pub const MANY: u8 = 8;
 
-pub const ROW: u8 = 9;
+pub const NO_WHOLE: u8 = 9;
 
-pub const LAYER: u8 = 10;
+pub const ROW: u8 = 10;
 
-pub const EMPTY: u8 = 11;
+pub const LAYER: u8 = 11;
 
-pub const REFUSED: u8 = 12;
+pub const EMPTY: u8 = 12;
+
+pub const REFUSED: u8 = 13;
 
 pub fn no_fault() -> Fault
     ensures { λ r. ⌜ r .what ≡ 0 ⌝ }
@@ -88,9 +90,10 @@ fn wanted(errors: i32, what: u8, number: u32) {
         errors,
         what,
         b"
-wanted a decimal such as 23.98 or -1
-wanted a decimal of at most 15 digits
-wanted at most 22 digits behind the point
+wanted a decimal such as 23.98, -1 or 2.4e1
+wanted a decimal of at most 19 digits
+wanted at most 44 places behind the point
+wanted at most 22 zeros behind the digits
 wanted a decimal; 
 wanted 2 or 3 numbers on a line
 wanted as many numbers on each line as on the first

@@ -33,9 +33,9 @@ pub fn help()
     io::write_all(
         STDOUT_FILENO,
         b"
-KNOTS: lines of 2 or 3 decimals of up to 15 digits. LIST: whole numbers. GRID: lines of whole weights, layers parted by
-blank lines. Numbers are parted by spaces, tabs or commas; '#' starts a comment. Up to 65,536 knots, indices or cells.
-The order is 12 where none is named.
+KNOTS: lines of 2 or 3 decimals of up to 19 digits, such as 23.98, -.5 or 2.4e1. LIST: whole numbers. GRID: lines of
+whole weights, layers parted by blank lines. Numbers are parted by spaces, tabs or commas; '#' starts a comment. Up to
+65,536 knots, indices or cells. The order is 12 where none is named.
 ",
     );
 }

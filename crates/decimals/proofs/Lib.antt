@@ -1,3 +1,2 @@
-pub mod Quotients
-pub mod Small
+pub mod OnePower
 pub mod Once

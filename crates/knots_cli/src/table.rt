@@ -3,6 +3,7 @@ use console::faults::COLUMNS;
 use console::faults::DEEP;
 use console::faults::EMPTY;
 use console::faults::Fault;
+use console::faults::HIGH;
 use console::faults::LONG;
 use console::faults::MANY;
 use console::faults::NO_DECIMAL;
@@ -60,6 +61,7 @@ fn no_decimal(word: &[u8], met: Decimal) -> u8 {
     match met {
         Decimal::Long(_) => LONG,
         Decimal::Deep(_) => DEEP,
+        Decimal::High(_) => HIGH,
         _ => {
             if not_finite(word) {
                 return NOT_FINITE;

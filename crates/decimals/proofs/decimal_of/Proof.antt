@@ -1,12 +1,11 @@
 -- After i bytes what has been met is that of the first i bytes.
 use Prim.Native.Nat.{_-_, _≤_}
-use mathlib.Core.Path.{_≡_, refl, sym, _∙_, subst}
+use mathlib.Core.Path.{_≡_, refl, _∙_}
 use native.Mathlib.Numerals.{add-one}
 use native.Mathlib.Omega.{arith}
 use lib.ListN.{length}
 use borrow.Author.Needs.{needs}
-use Rattle.decimals.specs.Decimals.{Small, metTo, decimalOf}
-use Rattle.decimals.proofs.Small.{met-small}
+use Rattle.decimals.specs.Decimals.{metTo, decimalOf}
 use Rattle.decimals.proofs.decimal_of.Statement.{statement}
 use Rattle.decimals.proofs.decimal_of.Tie as tie
 
@@ -37,7 +36,7 @@ unfolding metTo
 loop-again c = (omega arith, rw add-one (c .step .ensures ∙ rw (c .before .before .before .loop .inv .1)))
 
 end-requires : tie.Need-end-requires Inv-loop μ-loop
-end-requires c κs = subst Small (sym (c .before .loop .inv .1)) (met-small _ (c .before .loop .i))
+end-requires c κs = search needs
 
 returns : tie.Need-returns Inv-loop μ-loop
 unfolding decimalOf

@@ -1,35 +1,8 @@
--- Each case is that of the rule; what has been met is small enough for one exact division.
-use mathlib.Core.Path.{ap}
-use native.Mathlib.Omega.{arith}
+-- Each case is that of the rule.
 use Rattle.decimals.specs.Decimals.{endOf}
-use Rattle.decimals.specs.declared.Decimal.the-variants.{Value}
 use borrow.Author.Needs.{needs}
 use Rattle.decimals.proofs.end.Statement.{statement}
 use Rattle.decimals.proofs.end.Tie as tie
-
-enum-told : tie.Need-enum-told
-enum-told c = search needs
-
-enum-told-2 : tie.Need-enum-told-2
-enum-told-2 c = search needs
-
-enum-known-met : tie.Need-enum-known-met
-enum-known-met c = search needs
-
-ratio-requires : tie.Need-ratio-requires
-ratio-requires c κs = (rw (c .before .met .given .1) at (c .before .before .before .pre), omega arith)
-
-enum-told-3 : tie.Need-enum-told-3
-enum-told-3 c = search needs
-
-enum-known-met-2 : tie.Need-enum-known-met-2
-enum-known-met-2 c = search needs
-
-ratio-requires-2 : tie.Need-ratio-requires-2
-ratio-requires-2 c κs = rw (c .before .met2 .given .1) at (c .before .before .before .pre)
-
-enum-known-met-3 : tie.Need-enum-known-met-3
-enum-known-met-3 c = search needs
 
 returns : tie.Need-returns
 unfolding endOf
@@ -41,7 +14,7 @@ returns-2 c = rw (c .enum-told2 .given .1)
 
 returns-3 : tie.Need-returns-3
 unfolding endOf
-returns-3 c = rw (c .before .before .met .given .1) (ap Value (c .ratio .ensures))
+returns-3 c = rw (c .before .before .met .given .1) (c .value .ensures)
 
 returns-4 : tie.Need-returns-4
 unfolding endOf
@@ -49,27 +22,47 @@ returns-4 c = rw (c .enum-told3 .given .1)
 
 returns-5 : tie.Need-returns-5
 unfolding endOf
-returns-5 c = rw (c .before .before .met2 .given .1) (ap Value (c .ratio2 .ensures))
+returns-5 c = rw (c .before .before .met2 .given .1) (c .value2 .ensures)
 
 returns-6 : tie.Need-returns-6
 unfolding endOf
-returns-6 c = rw (c .before .met3 .given .1)
+returns-6 c = rw (c .before .before .met3 .given .1) (c .powered .ensures)
+
+returns-7 : tie.Need-returns-7
+unfolding endOf
+returns-7 c = rw (c .before .met4 .given .1)
+
+returns-8 : tie.Need-returns-8
+unfolding endOf
+returns-8 c = rw (c .before .met5 .given .1)
+
+returns-9 : tie.Need-returns-9
+unfolding endOf
+returns-9 c = rw (c .before .met6 .given .1)
 
 pub end-spec : {M : Type 1} → statement M
 end-spec =
     tie.close
     (tie.spec
-    enum-told
-    enum-told-2
-    enum-known-met
-    ratio-requires
-    enum-told-3
-    enum-known-met-2
-    ratio-requires-2
-    enum-known-met-3
+    (λ c. search needs)
+    (λ c. search needs)
+    (λ c. search needs)
+    (λ c κs. search needs)
+    (λ c. search needs)
+    (λ c. search needs)
+    (λ c. search needs)
+    (λ c κs. search needs)
+    (λ c. search needs)
+    (λ c κs. search needs)
+    (λ c. search needs)
+    (λ c. search needs)
+    (λ c. search needs)
     returns
     returns-2
     returns-3
     returns-4
     returns-5
-    returns-6)
+    returns-6
+    returns-7
+    returns-8
+    returns-9)
