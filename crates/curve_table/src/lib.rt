@@ -6,7 +6,7 @@
 // A constant of this size is refused by today's compiler, so that the table is the result of a function, and is filled anew at every call:
 // a caller over many cells makes it once, and lends it.
 ghost use mathlib.Core.Path.{_≡_};
-ghost use Prim.Native.Nat.{_+_, _*_, _≤_, _<_};
+ghost use Prim.Native.Nat.{_+_, _*_, _<_};
 ghost use lib.ListN.{length};
 ghost use Rattle.curve_laws.specs.Ruled.{Ruled, RuledBelow, RuledQuarter, RuledState};
 use table_states_0_1::state_0;
@@ -25,7 +25,7 @@ fn lay_quarter(table: &mut [u16; 16384], n: usize, entries: &[u16; 1024])
     }
 }
 
-// Writes the quarters of a state behind those of the states before it.
+// Writes the entries of a state behind those of the states before it.
 fn lay(table: &mut [u16; 16384], state: usize, quarters: &[[u16; 1024]; 4])
     requires { ⌜ (state < 4) × RuledState state (now quarters) ⌝ }
     requires { ⌜ (length (now table) ≡ 16384) × RuledBelow (4096 * state) (now table) ⌝ }
@@ -36,68 +36,14 @@ fn lay(table: &mut [u16; 16384], state: usize, quarters: &[[u16; 1024]; 4])
     }
 }
 
-// Writes the entries of state 0.
-fn lay_state_0(table: &mut [u16; 16384])
-    requires { ⌜ (length (now table) ≡ 16384) × RuledBelow 0 (now table) ⌝ }
-    ensures { λ _. ⌜ (length (now (table .exit)) ≡ 16384) × RuledBelow 4096 (now (table .exit)) ⌝ }
-{
-    lay(table, 0, &state_0());
-}
-
-// Writes the entries of state 1.
-fn lay_state_1(table: &mut [u16; 16384])
-    requires { ⌜ (length (now table) ≡ 16384) × RuledBelow 4096 (now table) ⌝ }
-    ensures { λ _. ⌜ (length (now (table .exit)) ≡ 16384) × RuledBelow 8192 (now (table .exit)) ⌝ }
-{
-    lay(table, 1, &state_1());
-}
-
-// Writes the entries of state 2.
-fn lay_state_2(table: &mut [u16; 16384])
-    requires { ⌜ (length (now table) ≡ 16384) × RuledBelow 8192 (now table) ⌝ }
-    ensures { λ _. ⌜ (length (now (table .exit)) ≡ 16384) × RuledBelow 12288 (now (table .exit)) ⌝ }
-{
-    lay(table, 2, &state_2());
-}
-
-// Writes the entries of state 3.
-fn lay_state_3(table: &mut [u16; 16384])
-    requires { ⌜ (length (now table) ≡ 16384) × RuledBelow 12288 (now table) ⌝ }
-    ensures { λ _. ⌜ (length (now (table .exit)) ≡ 16384) × RuledBelow 16384 (now (table .exit)) ⌝ }
-{
-    lay(table, 3, &state_3());
-}
-
-// Writes the entries of a state behind those of the states before it.
-fn lay_state(table: &mut [u16; 16384], state: usize)
-    requires { ⌜ (state < 4) × (length (now table) ≡ 16384) × RuledBelow (4096 * state) (now table) ⌝ }
-    ensures { λ _. ⌜ (length (now (table .exit)) ≡ 16384) × RuledBelow (4096 * (state + 1)) (now (table .exit)) ⌝ }
-{
-    match state {
-        0 => lay_state_0(table),
-        1 => lay_state_1(table),
-        2 => lay_state_2(table),
-        _ => lay_state_3(table),
-    }
-}
-
-// Writes the entries of the first states, by recursion: what calls itself the compiler does not lay out in its caller, and where it lays
-// the table's 16,384 entries out beside each other it takes a minute.
-fn lay_states(table: &mut [u16; 16384], count: usize)
-    requires { ⌜ (count ≤ 4) × (length (now table) ≡ 16384) ⌝ }
-    ensures { λ _. ⌜ (length (now (table .exit)) ≡ 16384) × RuledBelow (4096 * count) (now (table .exit)) ⌝ }
-{
-    if 0 < count {
-        lay_states(table, count - 1);
-        lay_state(table, count - 1);
-    }
-}
-
 // The table: each entry is what six steps of the slow machine give.
 pub fn table() -> [u16; 16384]
     ensures { λ r. ⌜ Ruled r ⌝ }
 {
     let mut table = [0u16; 16384];
-    lay_states(&mut table, 4);
+    lay(&mut table, 0, &state_0());
+    lay(&mut table, 1, &state_1());
+    lay(&mut table, 2, &state_2());
+    lay(&mut table, 3, &state_3());
     table
 }

@@ -1,10 +1,10 @@
 -- `lay` meets its contract: at every turn the quarters so far keep the rule. Assumes nothing.
 use Prim.Native.Nat.{ℕ, _+_, _-_, _*_, _≤_, _<_}
-use mathlib.Core.Path.{_≡_}
+use mathlib.Core.Path.{_≡_, subst}
+use mathlib.Core.List.{List}
 use native.Mathlib.Omega.{arith}
 use lib.ListN.{length}
 use Rattle.curve_laws.specs.Ruled.{RuledBelow}
-use Rattle.curve_table.proofs.Below.{same-below}
 use Rattle.curve_table.proofs.lay.Statement.{statement}
 use Rattle.curve_table.proofs.lay.Tie as tie
 
@@ -13,6 +13,9 @@ Inv-loop table₀ state quarters q₀ table q = (length table ≡ 16384) × (q �
 
 abbrev μ-loop : tie.MeasureT-loop
 μ-loop table₀ state quarters q₀ table q = 4 - q
+
+same-below : {m n : ℕ} (t : List ℕ) → m ≡ n → RuledBelow m t → RuledBelow n t
+same-below t e = subst (λ (n : ℕ). RuledBelow n t) e
 
 loop-holds : tie.Need-loop-holds Inv-loop μ-loop
 loop-holds c =
