@@ -1,0 +1,67 @@
+-- What parts the fields of a text: what its bytes show, step by step, up to the end of the first line that has a word. Assumes nothing.
+use Prim.Native.Nat.{ℕ}
+use mathlib.Core.Bool.{Bool, true, false, _||_, cond}
+use mathlib.Core.List.{List}
+use lib.Dec.{eqb}
+use Rattle.separators.specs.Bytes.{isLineEnd, isHash, isQuote, isTab, isSpace}
+use Rattle.separators.specs.Machines.{atEnd}
+use Rattle.separators.specs.declared.Sought.{Sought}
+use Rattle.separators.specs.declared.Sought.the-variants.{Blank, Comment, Word, Gap, Quoted, Found}
+
+-- a comma, a semicolon or a tab
+abbrev pub isSeparator : ℕ → Bool
+isSeparator b = eqb b 44 || (eqb b 59 || isTab b)
+
+-- one byte more of a line that has a word, outside quotes; at its end blanks part the fields, and 32 stands for them
+unfoldable pub wordByte : ℕ → Sought
+wordByte b = cond (isSeparator b) (Found b) (cond (isLineEnd b) (Found 32) (cond (isQuote b) Quoted (cond (isSpace b) Gap Word)))
+
+-- of a line that has had nothing but blanks: a tab in front of a word parts an empty field from it
+abbrev pub blankByte : Bool → ℕ → Sought
+blankByte tabbed b =
+    cond (isLineEnd b) (Blank false)
+    (cond (isTab b) (Blank true)
+    (cond (isSpace b) (Blank tabbed)
+    (cond (isHash b) Comment (cond tabbed (Found 9) (wordByte b)))))
+
+-- behind a gap, where a # starts a comment; between quotes; of an empty line's comment
+abbrev pub gapByte : ℕ → Sought
+gapByte b = cond (isHash b) (Found 32) (wordByte b)
+
+abbrev pub quotedByte : ℕ → Sought
+quotedByte b = cond (isQuote b) Word (cond (isLineEnd b) (Found 32) Quoted)
+
+abbrev pub commentByte : ℕ → Sought
+commentByte b = cond (isLineEnd b) (Blank false) Comment
+
+-- what has been met with one byte more
+unfoldable pub soughtStep : Sought → ℕ → Sought
+soughtStep (Blank tabbed) b = blankByte tabbed b
+soughtStep Comment b = commentByte b
+soughtStep Word b = wordByte b
+soughtStep Gap b = gapByte b
+soughtStep Quoted b = quotedByte b
+soughtStep (Found separator) b = Found separator
+
+abbrev pub isFound : Sought → Bool
+isFound (Blank tabbed) = false
+isFound Comment = false
+isFound Word = false
+isFound Gap = false
+isFound Quoted = false
+isFound (Found separator) = true
+
+abbrev pub separatorEnd : Sought → ℕ
+separatorEnd (Blank tabbed) = 32
+separatorEnd Comment = 32
+separatorEnd Word = 32
+separatorEnd Gap = 32
+separatorEnd Quoted = 32
+separatorEnd (Found separator) = separator
+
+-- from a place on, after what has been met before it
+unfoldable pub separatorFrom : Sought → List ℕ → ℕ → ℕ
+separatorFrom met t at = separatorEnd (atEnd (λ sought b place. soughtStep sought b) met t at)
+
+unfoldable pub separatorOf : List ℕ → ℕ
+separatorOf t = separatorFrom (Blank false) t 0
