@@ -45,7 +45,7 @@ fn read_all(file: i32, bytes: &mut [u8]) -> Size {
         if got == 0 {
             return Size::Bytes(done);
         }
-        done = std::num::wrapping_add_usize(done, got as usize);
+        done = std::num::wrapping_add_usize(done, io::count(got, bytes));
     }
     Size::Bytes(done)
 }
