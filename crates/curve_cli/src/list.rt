@@ -90,7 +90,14 @@ fn headed(text: &[u8], first: usize, separator: u8) -> bool {
 }
 
 // Reads the indices from `first` on, all on a line or the first `most`, and prints their cells.
-fn decode(path: &[u8], text: &[u8], first: usize, most: usize, setting: Setting, note: &[u8]) -> u8 {
+fn decode(
+    path: &[u8],
+    text: &[u8],
+    first: usize,
+    most: usize,
+    setting: Setting,
+    note: &[u8],
+) -> u8 {
     let mut indices = [0u64; 65536];
     let mut kept = [0usize; 61];
     let separator = separator_of(text);

@@ -111,15 +111,7 @@ fn read_line(
         let field = field_at(text, next, separator);
         match field {
             Field::Word(start, end, after) => {
-                read_field(
-                    text,
-                    start,
-                    end,
-                    axis_of(columns, k),
-                    point,
-                    values,
-                    faults,
-                );
+                read_field(text, start, end, axis_of(columns, k), point, values, faults);
                 next = after;
             }
             Field::LineEnd(after) => {
@@ -179,23 +171,25 @@ fn check_line(
     }
     let axis = missing(columns, fields);
     if axis < 3 {
-        note(
-            faults,
-            MISSING,
-            at,
-            column_of(columns, axis) % 4194304 + 1,
-        );
+        note(faults, MISSING, at, column_of(columns, axis) % 4194304 + 1);
     }
     true
 }
 
-// Keeps where the line of a point starts, where there is room; whether there was.
-fn keep_start(starts: &mut [u32; 65536], point: usize, at: usize) -> bool {
-    if 65536 <= point {
-        return false;
+// Keeps where the line of a point starts, or that there is no room for it; how many points there are then.
+fn keep(
+    text: &[u8],
+    at: usize,
+    points: usize,
+    starts: &mut [u32; 65536],
+    faults: &mut [usize; 61],
+) -> usize {
+    if 65536 <= points {
+        note(faults, MANY, at, line_end(text, at));
+        return points;
     }
-    starts[point] = (at % 4294967296) as u32;
-    true
+    starts[points] = (at % 4294967296) as u32;
+    points + 1
 }
 
 // Reads the lines of a text from `first` on; how many points they are. What is wrong is kept, and reading goes on while there is room
@@ -214,21 +208,17 @@ pub fn read(
     let mut at = first;
     let mut points: usize = 0;
     for _ in 0..text.len() {
-        if text.len() <= at {
-            return points;
-        }
         if full(faults) {
             return points;
         }
         let line = read_line(text, at, separator, columns, points, values, faults);
         if check_line(at, first, line.fields, columns, faults) {
-            if !keep_start(starts, points, at) {
-                note(faults, MANY, at, line_end(text, at));
-                return points;
-            }
-            points += 1;
+            points = keep(text, at, points, starts, faults);
         }
         at = line.next;
+        if text.len() <= at {
+            return points;
+        }
     }
     points
 }

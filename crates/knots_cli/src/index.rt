@@ -81,7 +81,13 @@ fn file(
 
 // The ends of the box: those that are given, or those of the points; the number of words of a box that the command should have, 0 where
 // all is well.
-fn fill_ends(line: &[u8], count: usize, values: &[f64; 196608], n: usize, ends: &mut [f64; 6]) -> bool {
+fn fill_ends(
+    line: &[u8],
+    count: usize,
+    values: &[f64; 196608],
+    n: usize,
+    ends: &mut [f64; 6],
+) -> bool {
     let given = asked::ends(line);
     if given == 0 {
         let mut points = [0usize; 6];
@@ -122,7 +128,17 @@ fn index(
         &mut indices,
     );
     if number != rules::ANSWERED {
-        return refusals::say(line, text, layout.separator, columns, n, values, starts, ends, number);
+        return refusals::say(
+            line,
+            text,
+            layout.separator,
+            columns,
+            n,
+            values,
+            starts,
+            ends,
+            number,
+        );
     }
     lines::print(line, text, layout, columns, n, values, starts, &indices)
 }

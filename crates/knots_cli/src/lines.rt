@@ -49,7 +49,10 @@ fn say_shared(path: &[u8], count: u64, n: usize) {
     io::print_decimal(STDERR_FILENO, count);
     io::write_all(STDERR_FILENO, b" of ");
     io::print_decimal(STDERR_FILENO, n as u64);
-    io::write_all(STDERR_FILENO, b" knots share an index with one before them\n");
+    io::write_all(
+        STDERR_FILENO,
+        b" knots share an index with one before them\n",
+    );
 }
 
 // Puts a line of the text behind what stands before it.
@@ -135,7 +138,16 @@ pub(crate) fn print(
     let mut buffer = [0u8; 4096];
     let mut at: usize = 0;
     if !asked::plain(line) {
-        at = notes::put(&mut buffer, line, text, layout.separator, columns, n, values, starts);
+        at = notes::put(
+            &mut buffer,
+            line,
+            text,
+            layout.separator,
+            columns,
+            n,
+            values,
+            starts,
+        );
     }
     at = put_header(&mut buffer, at, text, layout);
     at = put_points(

@@ -117,7 +117,17 @@ pub(crate) fn print(
     starts: &[u32; 65536],
 ) -> u8 {
     let mut buffer = [0u8; 4096];
-    let a = put_box(&mut buffer, 0, line, text, separator, columns, n, values, starts);
+    let a = put_box(
+        &mut buffer,
+        0,
+        line,
+        text,
+        separator,
+        columns,
+        n,
+        values,
+        starts,
+    );
     let b = printing::byte(&mut buffer, a, b'\n');
     of_output(printing::flush(&buffer, b))
 }

@@ -63,7 +63,16 @@ fn say_outside(
     let mut kept = [0usize; 61];
     for point in 0..n {
         if !full(&kept) {
-            note_outside(text, separator, columns, values, starts, ends, point, &mut kept);
+            note_outside(
+                text,
+                separator,
+                columns,
+                values,
+                starts,
+                ends,
+                point,
+                &mut kept,
+            );
         }
     }
     say_all(asked::path(line), text, separator, &kept);
@@ -117,9 +126,25 @@ fn say_thin(
     faults::write(b" column ");
     faults::write_number(column_of(columns, axis) % 4194304 + 1);
     faults::write(b" goes from ");
-    quote_end(line, text, separator, columns, starts, &points, axis % 3 * 2);
+    quote_end(
+        line,
+        text,
+        separator,
+        columns,
+        starts,
+        &points,
+        axis % 3 * 2,
+    );
     faults::write(b" to ");
-    quote_end(line, text, separator, columns, starts, &points, axis % 3 * 2 + 1);
+    quote_end(
+        line,
+        text,
+        separator,
+        columns,
+        starts,
+        &points,
+        axis % 3 * 2 + 1,
+    );
     faults::write(b":");
 }
 
@@ -142,7 +167,16 @@ pub(crate) fn say(
     }
     faults::begin(asked::path(line));
     if number == rules::REFUSED_THIN {
-        say_thin(line, text, separator, columns, n, values, starts, thin(ends));
+        say_thin(
+            line,
+            text,
+            separator,
+            columns,
+            n,
+            values,
+            starts,
+            thin(ends),
+        );
     }
     faults::end_refused(number);
     FAILED

@@ -19,7 +19,10 @@ use knot_files::rows;
 // Says that a word names no column.
 fn no_column(line: &[u8], axis: usize) -> u8 {
     let name = word(line, std::num::wrapping_add_usize(asked::COLUMNS, axis));
-    faults::of(name, b"no column of the file's first line has this name or number");
+    faults::of(
+        name,
+        b"no column of the file's first line has this name or number",
+    );
     FAILED
 }
 

@@ -110,7 +110,16 @@ fn read_rows(
         if full(faults) {
             return grid;
         }
-        let row = row::read(text, at, separator, limit, MOST, weights, grid.cells, faults);
+        let row = row::read(
+            text,
+            at,
+            separator,
+            limit,
+            MOST,
+            weights,
+            grid.cells,
+            faults,
+        );
         grid = with_row(grid, row, at, faults);
         at = row.next;
     }
