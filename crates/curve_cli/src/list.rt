@@ -73,12 +73,12 @@ fn limit_of(setting: Setting) -> Limit {
     let refusal = rules::REFUSED_INDEX;
     if setting.solid {
         return Limit {
-            most: (1u64 << (setting.order % 22 * 3)) - 1,
+            most: std::num::wrapping_sub_u64(1u64 << (setting.order % 22 * 3), 1),
             refusal,
         };
     }
     Limit {
-        most: (1u64 << (setting.order % 31 * 2)) - 1,
+        most: std::num::wrapping_sub_u64(1u64 << (setting.order % 31 * 2), 1),
         refusal,
     }
 }
@@ -156,10 +156,15 @@ fn decode_text(line: &[u8], text: &[u8], note: &[u8]) -> u8 {
     decode_list(path, text, setting, note)
 }
 
+fn decode_by(line: &[u8], text: &[u8], note: &[u8; 4096]) -> u8 {
+    decode_text(line, text, note)
+}
+
+// Decodes a text as the command and its first line say.
 fn decode_noted(line: &[u8], text: &[u8]) -> u8 {
     let mut note = [0u8; 4096];
     noted::read(text, &mut note);
-    decode_text(line, text, &note)
+    decode_by(line, text, &note)
 }
 
 pub(crate) fn command(line: &[u8], bytes: &mut [u8; 4194304]) -> u8 {
