@@ -1,7 +1,7 @@
 -- The number of a list of tests is that of the first place at which one passes, and the first place for several axes is the earliest of
 -- theirs. Assumes nothing.
 use Prim.Native.Nat.{ℕ, zero, suc, _≤_, min}
-use native.Mathlib.Nat.{zero-min, min-zero, suc-min-suc, min-le-left, le-refl}
+use native.Mathlib.Nat.{zero-min, min-zero, suc-min-suc, min-le-left, min-le-right, le-refl}
 use native.Mathlib.Omega.{arith}
 use mathlib.Core.Path.{_≡_, refl, sym, ap, _∙_}
 use mathlib.Core.Bool.{Bool, true, false, _||_}
@@ -60,21 +60,30 @@ module _ (order : ℕ) where
   abbrev pub place : List Given → ℕ
   place axes = firstPlace (askedOf axes (questions order))
 
-  pub place-of-more : (g : Given) (axes : List Given) → place (g ∷ axes) ≡ min (placeOf g order) (place axes)
+  place-of-more : (g : Given) (axes : List Given) → place (g ∷ axes) ≡ min (placeOf g order) (place axes)
   place-of-more g axes = earliest g axes (questions order)
+
+  pub place-is-earlier : (g : Given) (axes : List Given) (x rest earlier : ℕ) → earlier ≡ min x rest → x ≡ placeOf g order → rest ≡ place axes → earlier ≡ place (g ∷ axes)
+  place-is-earlier g axes x rest earlier e f h = rw (e, f, h) (sym (place-of-more g axes))
 
   pub number-at-the-earliest : (axes : List Given) → numberAtPlace (place axes) ≡ firstOf (askedOf axes (questions order))
   unfolding questions
   number-at-the-earliest axes = sym (at-first-place axes (questions order))
 
-  -- where the number is 0, no question passes of any axis
-  pub none-of-all : (axes : List Given) → firstOf (askedOf axes (questions order)) ≡ 0 → place axes ≡ 6
+  -- where the number is 0 no question passes of any axis
+  pub none-passes-of-any : (axes : List Given) → firstOf (askedOf axes (questions order)) ≡ 0 → place axes ≡ 6
   unfolding questions askedOf
-  none-of-all axes e = behind (askedOf axes (questions order)) (none-passes (askedOf axes (questions order)) tt e)
+  none-passes-of-any axes e = behind (askedOf axes (questions order)) (none-passes (askedOf axes (questions order)) tt e)
 
-  pub none-of-one : (g : Given) (rest : ℕ) → min (placeOf g order) rest ≡ 6 → placeOf g order ≡ 6
+  at-most-6 : (axes : List Given) → place axes ≤ 6
   unfolding questions askedOf
-  none-of-one g rest e =
-      let most : placeOf g order ≤ 6 = at-most-behind (askedOf (g ∷ []) (questions order)) in
-      let least : min (placeOf g order) rest ≤ placeOf g order = min-le-left _ _ in
-      omega arith
+  at-most-6 axes = at-most-behind (askedOf axes (questions order))
+
+  pub none-passes-of-each : (g : Given) (axes : List Given) → place (g ∷ axes) ≡ 6 → (placeOf g order ≡ 6) × (place axes ≡ 6)
+  none-passes-of-each g axes e =
+      let m = place-of-more g axes in
+      let first = at-most-6 (g ∷ []) in
+      let rest = at-most-6 axes in
+      let l : min (placeOf g order) (place axes) ≤ placeOf g order = min-le-left _ _ in
+      let r : min (placeOf g order) (place axes) ≤ place axes = min-le-right _ _ in
+      (omega arith, omega arith)

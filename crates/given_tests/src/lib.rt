@@ -37,11 +37,7 @@ use rules::REFUSED_VALUE;
 fn is_outside(low: f64, high: f64, value: f64) -> bool
     ensures { λ r. ⌜ r ≡ outside low high value ⌝ }
 {
-    if value < low {
-        true
-    } else {
-        high < value
-    }
+    if value < low { true } else { high < value }
 }
 
 // Whether some value lies outside low to high.

@@ -99,9 +99,10 @@ returns-8 c =
     let high = from-5 fifth in
     let low-is = high .before .low-of .ensures in
     let high-is = high .high-of .ensures in
-    let within = sym (c .before .any-outside .ensures) ∙ c .if7 .left in
-    (place-is _ _ _ _ _ low-is high-is (ends-fit (third .before)) (third .if3 .left) (thick fourth) (sym (fifth .before .is-foreign .ensures .0) ∙ fifth .if5 .left) (points-fit sixth) within
-    , λ _. taken _ _ _ _ _ low-is high-is (fifth .before .is-foreign .ensures .1 (fifth .if5 .left)) (points-fit sixth) within)
+    let within = sym (c .before .any-outside .ensures) ∙ c .if7 .left in (
+      place-is _ _ _ _ _ low-is high-is (ends-fit (third .before)) (third .if3 .left) (thick fourth) (sym (fifth .before .is-foreign .ensures .0) ∙ fifth .if5 .left) (points-fit sixth) within,
+      λ _. taken _ _ _ _ _ low-is high-is (fifth .before .is-foreign .ensures .1 (fifth .if5 .left)) (points-fit sixth) within,
+    )
 
 pub first-place-spec : {M : Type 1} → statement M
 first-place-spec =
