@@ -37,7 +37,7 @@ fn file_2d(values: &[f64], n: usize, ends: &[f64; 6], order: u32, indices: &mut 
     if indices.len() < n {
         return rules::REFUSED_LENGTHS;
     }
-    knots::index_2d_in(
+    given_2d::index_2d_in(
         of_axis(values, 0, n),
         of_axis(values, 1, n),
         side(ends, 0),
@@ -52,7 +52,7 @@ fn file_3d(values: &[f64], n: usize, ends: &[f64; 6], order: u32, indices: &mut 
     if indices.len() < n {
         return rules::REFUSED_LENGTHS;
     }
-    knots::index_3d_in(
+    given_3d::index_3d_in(
         of_axis(values, 0, n),
         of_axis(values, 1, n),
         of_axis(values, 2, n),
@@ -79,8 +79,7 @@ fn file(
     file_3d(values, n, ends, order, indices)
 }
 
-// The ends of the box: those that are given, or those of the points; the number of words of a box that the command should have, 0 where
-// all is well.
+// The ends of the box: those that are given, or those of the points. Whether the given ones are decimals, as many as there should be.
 fn fill_ends(
     line: &[u8],
     count: usize,
@@ -95,7 +94,7 @@ fn fill_ends(
         ends::of_points(values, &points, ends);
         return true;
     }
-    if given != count * 2 {
+    if given / 2 != count {
         faults::of(b"box", b"wanted a low and a high for each coordinate");
         return false;
     }

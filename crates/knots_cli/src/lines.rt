@@ -1,6 +1,7 @@
 // The list of indices: what it is, the header, and each knot's line behind its index.
 use crate::asked;
 use crate::notes;
+use crate::places::place_of;
 use console::lines::line_end;
 use console::lines::part;
 use console::status::of_output;
@@ -10,6 +11,9 @@ use libc::STDERR_FILENO;
 
 // The points in the order of their indices, those that share one in file order.
 fn sort(indices: &[u64], n: usize, points: &mut [u32], work: &mut [u32]) {
+    if 65536 < n {
+        return;
+    }
     if indices.len() < n {
         return;
     }
@@ -22,17 +26,19 @@ fn sort(indices: &[u64], n: usize, points: &mut [u32], work: &mut [u32]) {
     sort::in_order(&indices[..n], &mut points[..n], &mut work[..n]);
 }
 
+// The index of the point that stands at place `i` of the order.
+fn index_at(indices: &[u64; 65536], points: &[u32; 65536], i: usize) -> u64 {
+    indices[place_of(points, i) % 65536]
+}
+
 // How many of the sorted points share the index of the one before them.
 fn shared(indices: &[u64; 65536], points: &[u32; 65536], n: usize) -> u64 {
     let mut count: u64 = 0;
-    let mut before = indices[(points[0] % 65536) as usize];
-    for i in 1..65536usize {
-        if i < n {
-            let index = indices[(points[i] % 65536) as usize];
-            if index == before {
-                count += 1;
+    for i in 0..65535usize {
+        if i + 1 < n {
+            if index_at(indices, points, i) == index_at(indices, points, i + 1) {
+                count = std::num::wrapping_add_u64(count, 1);
             }
-            before = index;
         }
     }
     count
@@ -82,19 +88,13 @@ fn put_point(
     indices: &[u64; 65536],
 ) -> usize {
     let next = printing::number(buffer, at, indices[point % 65536]);
-    put_line(
-        buffer,
-        next,
-        separator,
-        text,
-        starts[point % 65536] as usize,
-    )
+    put_line(buffer, next, separator, text, place_of(starts, point))
 }
 
 // The point of line `i`: of file order, or of the order of the indices.
 fn point_of(i: usize, sorted: bool, points: &[u32; 65536]) -> usize {
     if sorted {
-        return points[i % 65536] as usize;
+        return place_of(points, i);
     }
     i
 }

@@ -7,6 +7,7 @@ mod asked;
 mod index;
 mod lines;
 mod notes;
+mod places;
 mod refusals;
 mod table;
 

@@ -1,5 +1,6 @@
 // The line that says what a list of indices is: dimension, order and box, in the words that `index` takes.
 use crate::asked;
+use crate::places::place_of;
 use console::lines::Span;
 use console::lines::field_of;
 use console::lines::part;
@@ -18,8 +19,12 @@ pub(crate) fn field(
     axis: usize,
     point: usize,
 ) -> Span {
-    let start = starts[point % 65536] as usize;
-    field_of(text, start, separator, column_of(columns, axis))
+    field_of(
+        text,
+        place_of(starts, point),
+        separator,
+        column_of(columns, axis),
+    )
 }
 
 // Puts a space and a field as it stands in the file, so that it names the same number.
