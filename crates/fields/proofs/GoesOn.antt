@@ -10,7 +10,7 @@ use borrow.Author.Tests.{ltb-true, leb-true, leb-false}
 use Rattle.separators.specs.Bytes.{isLineEnd, isHash, isQuote}
 use Rattle.separators.specs.Machines.{after, atEnd}
 use Rattle.separators.proofs.Machines.{goes-on, ends}
-use Rattle.fields.specs.Fields.{isBlank, parts, bareByte, bareStep, bareEnd, bareFrom, bareAt, openByte, commentByte, quotedByte, behindByte, fieldStep, fieldEnd, fieldFrom, fieldAt}
+use Rattle.fields.specs.Fields.{isBlank, parts, bareByte, bareStep, bareEnd, bareFrom, bareAt, openByte, commentByte, quotedByte, behindByte, fieldByte, fieldStep, fieldEnd, fieldFrom, fieldAt}
 use Rattle.fields.specs.declared.Field.{Field}
 use Rattle.fields.specs.declared.Field.the-variants as field
 use Rattle.fields.specs.declared.Bare.{Bare}
@@ -111,8 +111,8 @@ module _ (separator : ℕ) (t : List ℕ) where
       (λ _. cases (Fits at (i + 1)) (isBlank separator b) (met.Behind start first end) _ (λ _. (h .0, h .1, h .2, omega arith, h .4))
       (λ _. cases (Fits at (i + 1)) (isHash b) (met.Done (field.Word first end i)) (met.Bare start) (λ _. (omega arith, omega arith, omega arith, omega arith, omega arith)) (λ _. (h .0, omega arith, h .4)))))
 
-  step-fits : (at i : ℕ) (m : Met) → at ≤ i → Fits at i m → Fits at (i + 1) (fieldStep separator m (getD t i 0) i (i + 1))
-  unfolding fieldStep
+  step-fits : (at i : ℕ) (m : Met) → at ≤ i → Fits at i m → Fits at (i + 1) (fieldStep separator m (getD t i 0) i)
+  unfolding fieldByte
   step-fits at i met.Open p h = open-byte-fits at i p
   step-fits at i met.Comment p h =
       cases (Fits at (i + 1)) (isLineEnd (getD t i 0)) (met.Done (field.Comment (i + 1))) met.Comment (λ _. (omega arith, omega arith)) (λ _. omega arith)
@@ -125,12 +125,12 @@ module _ (separator : ℕ) (t : List ℕ) where
   step-fits at i (met.Bare start) p h = (h .0, omega arith, h .2)
   step-fits at i (met.Done f) p h = longer at i f h
 
-  after-fits : (at i n : ℕ) (m : Met) → at ≤ i → Fits at i m → Fits at (i + n) (after (λ m b place. fieldStep separator m b place (place + 1)) m t i n)
+  after-fits : (at i n : ℕ) (m : Met) → at ≤ i → Fits at i m → Fits at (i + n) (after (fieldStep separator) m t i n)
   unfolding after
   after-fits at i zero m p h = let e : i + 0 ≡ i = omega arith in rw e h
   after-fits at i (suc n) m p h =
       let e : i + suc n ≡ i + 1 + n = omega arith in
-      rw e (after-fits at (i + 1) n (fieldStep separator m (getD t i 0) i (i + 1)) (omega arith) (step-fits at i m p h))
+      rw e (after-fits at (i + 1) n (fieldStep separator m (getD t i 0) i) (omega arith) (step-fits at i m p h))
 
   end-goes-on : (at : ℕ) (m : Met) → at < length t → Fits at (length t) m → GoesOn at (length t) (fieldEnd separator t m)
   unfolding fieldEnd
@@ -142,7 +142,7 @@ module _ (separator : ℕ) (t : List ℕ) where
   end-goes-on at (met.Bare start) l h = bare-goes-on at start (h .0) (h .1) (h .2)
   end-goes-on at (met.Done f) l h = h
 
-  at-end-fits : (at : ℕ) → at < length t → Fits at (length t) (atEnd (λ m b place. fieldStep separator m b place (place + 1)) met.Open t at)
+  at-end-fits : (at : ℕ) → at < length t → Fits at (length t) (atEnd (fieldStep separator) met.Open t at)
   unfolding atEnd
   at-end-fits at l =
       let e : at + (length t - at) ≡ length t = omega arith in
@@ -151,11 +151,11 @@ module _ (separator : ℕ) (t : List ℕ) where
   -- behind the text's end there is no field
   none : (at : ℕ) → length t ≤ at → fieldAt separator t at ≡ field.End
   unfolding fieldAt fieldFrom fieldEnd
-  none at h = rw (ends (λ m b place. fieldStep separator m b place (place + 1)) t met.Open at h)
+  none at h = rw (ends (fieldStep separator) t met.Open at h)
 
   within : (at : ℕ) → at < length t → GoesOn at (length t) (fieldAt separator t at)
   unfolding fieldAt fieldFrom
-  within at l = end-goes-on at (atEnd (λ m b place. fieldStep separator m b place (place + 1)) met.Open t at) l (at-end-fits at l)
+  within at l = end-goes-on at (atEnd (fieldStep separator) met.Open t at) l (at-end-fits at l)
 
   pub field-goes-on : (at : ℕ) → GoesOn at (length t) (fieldAt separator t at)
   field-goes-on at = either (leb (length t) at) refl
