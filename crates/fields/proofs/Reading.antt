@@ -5,7 +5,7 @@ use mathlib.Core.Bool.{true, false, true≢false}
 use mathlib.Core.List.{List}
 use lib.ListN.{getD, length}
 use Rattle.separators.proofs.Machines.{goes-on, ends, stays}
-use Rattle.fields.specs.Fields.{bareByte, bareStep, bareEnd, bareFrom, fieldStep, isMet, fieldEnd, fieldFrom}
+use Rattle.fields.specs.Fields.{bareByte, bareStep, bareEnd, bareFrom, fieldByte, fieldStep, isMet, fieldEnd, fieldFrom}
 use Rattle.fields.specs.declared.Field.{Field}
 use Rattle.fields.specs.declared.Field.the-variants as field
 use Rattle.fields.specs.declared.Bare.{Bare}
@@ -31,8 +31,8 @@ module _ (separator : ℕ) (t : List ℕ) where
     bare-ends-here end next at = rw (stays (bareStep separator) t (Ended end next) (λ b place. refl) at)
 
   -- of what has been met where a field may begin
-  met-stays : (m : Met) → isMet m ≡ true → (b place : ℕ) → fieldStep separator m b place (place + 1) ≡ m
-  unfolding fieldStep
+  met-stays : (m : Met) → isMet m ≡ true → (b place : ℕ) → fieldStep separator m b place ≡ m
+  unfolding fieldByte
   met-stays met.Open h b place = absurd (true≢false (sym h))
   met-stays met.Comment h b place = absurd (true≢false (sym h))
   met-stays (met.Quoted start first) h b place = absurd (true≢false (sym h))
@@ -43,12 +43,12 @@ module _ (separator : ℕ) (t : List ℕ) where
 
   pub field-is-met : (m : Met) (at : ℕ) → isMet m ≡ true → fieldEnd separator t m ≡ fieldFrom separator t m at
   unfolding fieldFrom
-  field-is-met m at h = ap (fieldEnd separator t) (sym (stays (λ m b place. fieldStep separator m b place (place + 1)) t m (met-stays m h) at))
+  field-is-met m at h = ap (fieldEnd separator t) (sym (stays (fieldStep separator) t m (met-stays m h) at))
 
-  pub field-reads-on : (m next : Met) (at : ℕ) (f : Field) → at < length t → next ≡ fieldStep separator m (getD t at 0) at (at + 1) → fieldFrom separator t m at ≡ f → fieldFrom separator t next (at + 1) ≡ f
+  pub field-reads-on : (m next : Met) (at : ℕ) (f : Field) → at < length t → next ≡ fieldStep separator m (getD t at 0) at → fieldFrom separator t m at ≡ f → fieldFrom separator t next (at + 1) ≡ f
   unfolding fieldFrom
-  field-reads-on m next at f h e same = rw e (sym (ap (fieldEnd separator t) (goes-on (λ m b place. fieldStep separator m b place (place + 1)) t m at h)) ∙ same)
+  field-reads-on m next at f h e same = rw e (sym (ap (fieldEnd separator t) (goes-on (fieldStep separator) t m at h)) ∙ same)
 
   pub field-is-read : (m : Met) (at : ℕ) → length t ≤ at → fieldEnd separator t m ≡ fieldFrom separator t m at
   unfolding fieldFrom
-  field-is-read m at h = ap (fieldEnd separator t) (sym (ends (λ m b place. fieldStep separator m b place (place + 1)) t m at h))
+  field-is-read m at h = ap (fieldEnd separator t) (sym (ends (fieldStep separator) t m at h))

@@ -72,15 +72,19 @@ abbrev pub closedByte : ℕ → ℕ → ℕ → ℕ → ℕ → ℕ → ℕ → 
 closedByte separator start first end b at next = cond (isQuote b) (met.Quoted start first) (behindByte separator start first end b at next)
 
 -- what has been met with one byte more
-unfoldable pub fieldStep : ℕ → Met → ℕ → ℕ → ℕ → Met
-fieldStep separator met.Open b at next = openByte separator b at next
-fieldStep separator met.Comment b at next = commentByte b next
-fieldStep separator (met.Quoted start first) b at next = quotedByte start first b at
-fieldStep separator (met.Closed start first end) b at next = closedByte separator start first end b at next
-fieldStep separator (met.Behind start first end) b at next = behindByte separator start first end b at next
-fieldStep separator (met.Bare start) b at next = met.Bare start
-fieldStep separator (met.Done f) b at next = met.Done f
+unfoldable pub fieldByte : ℕ → Met → ℕ → ℕ → ℕ → Met
+fieldByte separator met.Open b at next = openByte separator b at next
+fieldByte separator met.Comment b at next = commentByte b next
+fieldByte separator (met.Quoted start first) b at next = quotedByte start first b at
+fieldByte separator (met.Closed start first end) b at next = closedByte separator start first end b at next
+fieldByte separator (met.Behind start first end) b at next = behindByte separator start first end b at next
+fieldByte separator (met.Bare start) b at next = met.Bare start
+fieldByte separator (met.Done f) b at next = met.Done f
 
+abbrev pub fieldStep : ℕ → Met → ℕ → ℕ → Met
+fieldStep separator met b at = fieldByte separator met b at (at + 1)
+
+-- whether no byte more changes it
 abbrev pub isMet : Met → Bool
 isMet met.Open = false
 isMet met.Comment = false
@@ -102,7 +106,7 @@ fieldEnd separator t (met.Done f) = f
 
 -- from a place on, after what has been met before it
 unfoldable pub fieldFrom : ℕ → List ℕ → Met → ℕ → Field
-fieldFrom separator t met at = fieldEnd separator t (atEnd (λ m b place. fieldStep separator m b place (place + 1)) met t at)
+fieldFrom separator t met at = fieldEnd separator t (atEnd (fieldStep separator) met t at)
 
 unfoldable pub fieldAt : ℕ → List ℕ → ℕ → Field
 fieldAt separator t at = fieldFrom separator t met.Open at

@@ -10,7 +10,7 @@
 // the text and goes on from where it was looked for (`field-goes-on`).
 pub use separators::separator_of;
 ghost use mathlib.Core.Path.{_≡_};
-ghost use Rattle.fields.specs.Fields.{isBlank, parts, bareByte, bareAt, openByte, quotedByte, closedByte, behindByte, commentByte, fieldStep, isMet, fieldEnd, fieldAt};
+ghost use Rattle.fields.specs.Fields.{isBlank, parts, bareByte, bareAt, openByte, quotedByte, closedByte, behindByte, commentByte, fieldByte, isMet, fieldEnd, fieldAt};
 
 // What stands next in a text: a field from its first byte to before another (it may be empty) with the place where the next may
 // begin, a comment or a line's end with the place after it, or the text's end.
@@ -203,7 +203,7 @@ fn closed_byte(
 
 // What has been met with one byte more, which stands at `at` and before `next`.
 fn step(met: Met, b: u8, at: usize, next: usize, separator: u8) -> Met
-    ensures { λ r. ⌜ r ≡ fieldStep separator met b at next ⌝ }
+    ensures { λ r. ⌜ r ≡ fieldByte separator met b at next ⌝ }
 {
     match met {
         Met::Open => open_byte(b, at, next, separator),

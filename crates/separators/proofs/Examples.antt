@@ -2,24 +2,24 @@
 use mathlib.Core.Path.{_≡_, refl}
 use mathlib.Core.List.{[], _∷_}
 use Rattle.separators.specs.Machines.{after, atEnd}
-use Rattle.separators.specs.Separators.{wordByte, soughtStep, separatorFrom, separatorOf}
+use Rattle.separators.specs.Separators.{wordByte, soughtByte, separatorFrom, separatorOf}
 
 -- "a,b";2
 pub behind-quotes : separatorOf (34 ∷ 97 ∷ 44 ∷ 98 ∷ 34 ∷ 59 ∷ 50 ∷ []) ≡ 59
-unfolding separatorOf separatorFrom atEnd after soughtStep wordByte
+unfolding separatorOf separatorFrom atEnd after soughtByte wordByte
 behind-quotes = refl
 
 -- a line of a comment with a comma, an empty one, then a tab and 24;5
 pub tab-in-front : separatorOf (35 ∷ 44 ∷ 10 ∷ 32 ∷ 9 ∷ 13 ∷ 10 ∷ 9 ∷ 50 ∷ 52 ∷ 59 ∷ 53 ∷ []) ≡ 9
-unfolding separatorOf separatorFrom atEnd after soughtStep wordByte
+unfolding separatorOf separatorFrom atEnd after soughtByte wordByte
 tab-in-front = refl
 
 -- C# 24 #,
 pub none-before-a-comment : separatorOf (67 ∷ 35 ∷ 32 ∷ 50 ∷ 52 ∷ 32 ∷ 35 ∷ 44 ∷ []) ≡ 32
-unfolding separatorOf separatorFrom atEnd after soughtStep wordByte
+unfolding separatorOf separatorFrom atEnd after soughtByte wordByte
 none-before-a-comment = refl
 
 -- the first line that has a word decides: 24 5, and then 1,2
 pub first-line-decides : separatorOf (50 ∷ 52 ∷ 32 ∷ 53 ∷ 13 ∷ 10 ∷ 49 ∷ 44 ∷ 50 ∷ []) ≡ 32
-unfolding separatorOf separatorFrom atEnd after soughtStep wordByte
+unfolding separatorOf separatorFrom atEnd after soughtByte wordByte
 first-line-decides = refl

@@ -34,15 +34,19 @@ quotedByte b = cond (isQuote b) Word (cond (isLineEnd b) (Found 32) Quoted)
 abbrev pub commentByte : ℕ → Sought
 commentByte b = cond (isLineEnd b) (Blank false) Comment
 
--- what has been met with one byte more
-unfoldable pub soughtStep : Sought → ℕ → Sought
-soughtStep (Blank tabbed) b = blankByte tabbed b
-soughtStep Comment b = commentByte b
-soughtStep Word b = wordByte b
-soughtStep Gap b = gapByte b
-soughtStep Quoted b = quotedByte b
-soughtStep (Found separator) b = Found separator
+-- what has been met with one byte more, wherever it stands
+unfoldable pub soughtByte : Sought → ℕ → Sought
+soughtByte (Blank tabbed) b = blankByte tabbed b
+soughtByte Comment b = commentByte b
+soughtByte Word b = wordByte b
+soughtByte Gap b = gapByte b
+soughtByte Quoted b = quotedByte b
+soughtByte (Found separator) b = Found separator
 
+abbrev pub soughtStep : Sought → ℕ → ℕ → Sought
+soughtStep met b at = soughtByte met b
+
+-- whether no byte more changes it, and what parts the fields of a text that has been read
 abbrev pub isFound : Sought → Bool
 isFound (Blank tabbed) = false
 isFound Comment = false
@@ -61,7 +65,7 @@ separatorEnd (Found separator) = separator
 
 -- from a place on, after what has been met before it
 unfoldable pub separatorFrom : Sought → List ℕ → ℕ → ℕ
-separatorFrom met t at = separatorEnd (atEnd (λ sought b place. soughtStep sought b) met t at)
+separatorFrom met t at = separatorEnd (atEnd soughtStep met t at)
 
 unfoldable pub separatorOf : List ℕ → ℕ
 separatorOf t = separatorFrom (Blank false) t 0

@@ -5,7 +5,7 @@
 // where there is none before a comment, blanks do, and a space stands for them. `separator_of` is `separatorOf` of its spec.
 ghost use mathlib.Core.Path.{_≡_};
 ghost use Rattle.separators.specs.Bytes.{isSpace};
-ghost use Rattle.separators.specs.Separators.{isSeparator, blankByte, wordByte, gapByte, quotedByte, commentByte, soughtStep, isFound, separatorEnd, separatorOf};
+ghost use Rattle.separators.specs.Separators.{isSeparator, blankByte, wordByte, gapByte, quotedByte, commentByte, soughtByte, isFound, separatorEnd, separatorOf};
 
 // What has been met of a text: on its line nothing but blanks, and whether a tab is among them; the comment of an empty line; a
 // word and its last byte, a gap behind it, or an open quote; or what parts its fields.
@@ -117,7 +117,7 @@ fn comment_byte(b: u8) -> Sought
 
 // What has been met with one byte more.
 fn step(met: Sought, b: u8) -> Sought
-    ensures { λ r. ⌜ r ≡ soughtStep met b ⌝ }
+    ensures { λ r. ⌜ r ≡ soughtByte met b ⌝ }
 {
     match met {
         Sought::Blank(tabbed) => blank_byte(tabbed, b),
