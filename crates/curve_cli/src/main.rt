@@ -9,13 +9,17 @@ mod picture;
 mod ranges;
 
 use console::status::DONE;
+use console::status::FAILED;
 use console::status::misused;
 use console::words::place;
 
 // Writes the numbers of refusal.
 fn refusals() -> u8 {
-    console::meanings::numbers(libc::STDOUT_FILENO);
-    DONE
+    if console::meanings::numbers(libc::STDOUT_FILENO) {
+        return DONE;
+    }
+    printing::say_lost();
+    FAILED
 }
 
 // Carries out a command.

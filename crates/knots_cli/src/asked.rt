@@ -18,7 +18,11 @@ pub(crate) fn extent(line: &[u8]) -> bool {
     is(line, 1, b"extent")
 }
 
+// The order, the default where none is named.
 pub(crate) fn order(line: &[u8]) -> u32 {
+    if word(line, 3).len() == 0 {
+        return rules::DEFAULT_ORDER;
+    }
     number_of(word(line, 3))
 }
 
