@@ -12,9 +12,13 @@ use Rattle.separators.specs.declared.Sought.the-variants.{Blank, Comment
 abbrev pub isSeparator : ℕ → Bool
 isSeparator b = eqb b 44 || (eqb b 59 || isTab b)
 
--- one byte more of a line that has a word, outside quotes; at its end blanks part the fields, and 32 stands for them
+-- one byte more of a line that has a word, where no quote opens; at the line's end blanks part the fields, and 32 stands for them
 unfoldable pub wordByte : ℕ → Sought
-wordByte b = cond (isSeparator b) (Found b) (cond (isLineEnd b) (Found 32) (cond (isQuote b) Quoted (cond (isSpace b) Gap Word)))
+wordByte b = cond (isSeparator b) (Found b) (cond (isLineEnd b) (Found 32) (cond (isSpace b) Gap Word))
+
+-- where a field may begin, or behind a closing quote: there a quote opens
+unfoldable pub openByte : ℕ → Sought
+openByte b = cond (isQuote b) Quoted (wordByte b)
 
 -- of a line that has had nothing but blanks: a tab in front of a word parts an empty field from it
 abbrev pub blankByte : Bool → ℕ → Sought
@@ -22,14 +26,15 @@ blankByte tabbed b =
     cond (isLineEnd b) (Blank false)
     (cond (isTab b) (Blank true)
     (cond (isSpace b) (Blank tabbed)
-    (cond (isHash b) Comment (cond tabbed (Found 9) (wordByte b)))))
+    (cond (isHash b) Comment (cond tabbed (Found 9) (openByte b)))))
 
--- behind a gap, where a # starts a comment; between quotes; of an empty line's comment
+-- behind a gap, a blank or a closing quote, where a # starts a comment; so of two quotes for one the second opens again what the first closed
 abbrev pub gapByte : ℕ → Sought
-gapByte b = cond (isHash b) (Found 32) (wordByte b)
+gapByte b = cond (isHash b) (Found 32) (openByte b)
 
+-- between quotes; of an empty line's comment
 abbrev pub quotedByte : ℕ → Sought
-quotedByte b = cond (isQuote b) Word (cond (isLineEnd b) (Found 32) Quoted)
+quotedByte b = cond (isQuote b) Gap (cond (isLineEnd b) (Found 32) Quoted)
 
 abbrev pub commentByte : ℕ → Sought
 commentByte b = cond (isLineEnd b) (Blank false) Comment

@@ -2,13 +2,16 @@
 //
 // A line is empty that holds nothing but blanks (spaces, tabs, carriage returns), or whose first byte that is no blank is a
 // `#`. On the first line that is not empty the first comma, semicolon or tab outside double quotes parts the fields;
-// where there is none before a comment, blanks do, and a space stands for them. `separator_of` is `separatorOf` of its spec.
+// where there is none before a comment, blanks do, and a space stands for them. A quote opens where a field may begin: at the
+// line's first byte that is no blank, or behind a blank (a comma, a semicolon or a tab has parted already). Behind a closing
+// quote another opens again, so that two for one stay inside. Elsewhere a quote is a byte as any other: `7" target,focal` is
+// parted by commas. A `#` starts a comment behind a blank or a closing quote. `separator_of` is `separatorOf` of its spec.
 ghost use mathlib.Core.Path.{_≡_};
 ghost use Rattle.separators.specs.Bytes.{isSpace};
-ghost use Rattle.separators.specs.Separators.{isSeparator, blankByte, wordByte, gapByte, quotedByte, commentByte, soughtByte, isFound, separatorEnd, separatorOf};
+ghost use Rattle.separators.specs.Separators.{isSeparator, blankByte, wordByte, openByte, gapByte, quotedByte, commentByte, soughtByte, isFound, separatorEnd, separatorOf};
 
 // What has been met of a text: on its line nothing but blanks, and whether a tab is among them; the comment of an empty line; a
-// word and its last byte, a gap behind it, or an open quote; or what parts its fields.
+// word up to its last byte, a gap behind it (a blank or a closing quote), or an open quote; or what parts its fields.
 pub enum Sought {
     Blank(bool),
     Comment,
@@ -41,7 +44,7 @@ fn is_separator(b: u8) -> bool
     b == b'\t'
 }
 
-// One byte more of a line that has a word, outside quotes.
+// One byte more of a line that has a word, where no quote opens.
 fn word_byte(b: u8) -> Sought
     ensures { λ r. ⌜ r ≡ wordByte b ⌝ }
 {
@@ -51,13 +54,20 @@ fn word_byte(b: u8) -> Sought
     if b == b'\n' {
         return Sought::Found(b' ');
     }
+    if !is_space(b) {
+        return Sought::Word;
+    }
+    Sought::Gap
+}
+
+// One byte more where a field may begin, or behind a closing quote: there a quote opens.
+fn open_byte(b: u8) -> Sought
+    ensures { λ r. ⌜ r ≡ openByte b ⌝ }
+{
     if b == b'"' {
         return Sought::Quoted;
     }
-    if is_space(b) {
-        return Sought::Gap;
-    }
-    Sought::Word
+    word_byte(b)
 }
 
 // One byte more of a line that has had nothing but blanks.
@@ -79,7 +89,7 @@ fn blank_byte(tabbed: bool, b: u8) -> Sought
     if tabbed {
         return Sought::Found(b'\t');
     }
-    word_byte(b)
+    open_byte(b)
 }
 
 // One byte more behind a gap.
@@ -89,7 +99,7 @@ fn gap_byte(b: u8) -> Sought
     if b == b'#' {
         return Sought::Found(b' ');
     }
-    word_byte(b)
+    open_byte(b)
 }
 
 // One byte more between quotes.
@@ -97,7 +107,7 @@ fn quoted_byte(b: u8) -> Sought
     ensures { λ r. ⌜ r ≡ quotedByte b ⌝ }
 {
     if b == b'"' {
-        return Sought::Word;
+        return Sought::Gap;
     }
     if b == b'\n' {
         return Sought::Found(b' ');

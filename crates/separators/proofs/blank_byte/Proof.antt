@@ -32,7 +32,7 @@ returns-6 c =
     let p = c .before .before .before in
     let q = p .before .before in
     simp (ne-eqb _ _ (q .before .if1 .left), ne-eqb _ _ (q .if2 .left), sym (p .before .is-space .ensures) ∙ p .if3 .left, ne-eqb _ _ (c .before .before .if4 .left), c .before .if5 .left)
-    (c .word-byte .ensures)
+    (c .open-byte .ensures)
 
 pub blank-byte-spec : {M : Type 1} → statement M
 blank-byte-spec = tie.close (tie.spec returns returns-2 (λ c κs. search needs) returns-3 returns-4 returns-5 (λ c κs. search needs) returns-6)

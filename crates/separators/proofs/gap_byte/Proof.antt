@@ -8,7 +8,7 @@ returns : tie.Need-returns
 returns c = simp (eq-eqb _ _ (c .if1 .taken))
 
 returns-2 : tie.Need-returns-2
-returns-2 c = simp (ne-eqb _ _ (c .before .if1 .left)) (c .word-byte .ensures)
+returns-2 c = simp (ne-eqb _ _ (c .before .if1 .left)) (c .open-byte .ensures)
 
 pub gap-byte-spec : {M : Type 1} → statement M
 gap-byte-spec = tie.close (tie.spec returns (λ c κs. search needs) returns-2)
