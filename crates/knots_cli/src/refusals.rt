@@ -49,7 +49,7 @@ fn note_outside(
     }
 }
 
-// Says which coordinates lie outside a box; whether there are any.
+// Says which coordinates lie outside a box.
 fn say_outside(
     line: &[u8],
     text: &[u8],
@@ -59,7 +59,7 @@ fn say_outside(
     values: &[f64; 196608],
     starts: &[u32; 65536],
     ends: &[f64; 6],
-) -> bool {
+) {
     let mut kept = [0usize; 61];
     for point in 0..n {
         if !full(&kept) {
@@ -76,17 +76,27 @@ fn say_outside(
         }
     }
     say_all(asked::path(line), text, separator, &kept);
-    kept[0] != 0
 }
 
-// The first coordinate whose axis is thin, 3 where none is.
-fn thin(ends: &[f64; 6]) -> usize {
+// Whether an axis from low to high is refused for its ends by this number.
+fn ends_refused(low: f64, high: f64, number: u32) -> bool {
+    if number == rules::REFUSED_OUTSIDE {
+        return high < low;
+    }
+    if number != rules::REFUSED_THIN {
+        return false;
+    }
+    if low == high {
+        return false;
+    }
+    high - low < rules::LEAST_WIDTH
+}
+
+// The first coordinate whose axis is refused for its ends by this number, 3 where none is.
+fn axis_refused(ends: &[f64; 6], number: u32) -> usize {
     for axis in 0..3usize {
-        let width = ends[2 * axis + 1] - ends[2 * axis];
-        if 0.0 < width {
-            if width < rules::LEAST_WIDTH {
-                return axis;
-            }
+        if ends_refused(ends[2 * axis], ends[2 * axis + 1], number) {
+            return axis;
         }
     }
     3
@@ -110,8 +120,8 @@ fn quote_end(
     faults::quote(part(text, found.start, found.end));
 }
 
-// Says which axis is thin.
-fn say_thin(
+// Says from where to where an axis goes.
+fn say_axis(
     line: &[u8],
     text: &[u8],
     separator: u8,
@@ -160,23 +170,16 @@ pub(crate) fn say(
     ends: &[f64; 6],
     number: u32,
 ) -> u8 {
-    if number == rules::REFUSED_OUTSIDE {
-        if say_outside(line, text, separator, columns, n, values, starts, ends) {
+    let axis = axis_refused(ends, number);
+    if axis == 3 {
+        if number == rules::REFUSED_OUTSIDE {
+            say_outside(line, text, separator, columns, n, values, starts, ends);
             return FAILED;
         }
     }
     faults::begin(asked::path(line));
-    if number == rules::REFUSED_THIN {
-        say_thin(
-            line,
-            text,
-            separator,
-            columns,
-            n,
-            values,
-            starts,
-            thin(ends),
-        );
+    if axis < 3 {
+        say_axis(line, text, separator, columns, n, values, starts, axis);
     }
     faults::end_refused(number);
     FAILED
