@@ -3,23 +3,23 @@
 use Prim.Native.Nat.{ℕ, zero, suc, _≤_}
 use native.Mathlib.Nat.{le-refl}
 use native.Mathlib.Omega.{arith}
-use mathlib.Core.Path.{_≡_, refl, sym, _∙_}
-use mathlib.Core.Bool.{Bool, false, _||_}
-use mathlib.Core.List.{List, [], _∷_, _++_}
+use mathlib.Core.Path.{_≡_, refl}
+use mathlib.Core.Bool.{Bool, false}
+use mathlib.Core.List.{List, [], _∷_}
 use lib.Dec.{lit≤}
 use lib.ListN.{length, take, drop}
 use lib.Ieee.{Float}
-use borrow.Author.Tests.{ltb-false, le-ltb}
-use Rattle.rules.specs.Sums.{any, list}
+use borrow.Author.Tests.{ltb-false}
+use Rattle.rules.specs.Sums.{any}
 use Rattle.rules.specs.Refusals.{Test, test, firstOf, top2, top3, orderOver, noPoints, lengthsOff, valueUnfit, axisThin, reversed, axisTests, axisBy, sliceBy}
-use Rattle.rules.specs.Axis.{axisOf, makeAxis, lowOf, highOf}
+use Rattle.rules.specs.Axis.{makeAxis, lowOf, highOf}
 use Rattle.rules.specs.Knots.{filedBy}
-use Rattle.rules.specs.Demands.{NonePasses}
 use Rattle.rules.specs.declared.Axis.{Axis}
 use Rattle.rules.specs.declared.Extent.{Extent}
 use Rattle.laws.proofs.Any.{neither}
-use Rattle.laws.proofs.Exactly.{exactly, none-passes, first-earlier}
+use Rattle.laws.proofs.Exactly.{none-passes, first-earlier}
 use Rattle.axis_laws.proofs.AxisAccepts.{ends-of}
+use Rattle.given_laws.proofs.NeverForeign.{made-of-ends}
 use Rattle.knots_given.specs.Given.{Given, on, questions, askedOf, onTests, axisIn, indexOn2, indexIn2, indexOn3, indexIn3}
 use Rattle.given_axis.specs.Records.{recordBy, recordIn}
 
@@ -32,20 +32,23 @@ abbrev side : List Float → Extent → Side
 side xs e = record { points = xs; extent = e }
 
 module _ (order : ℕ) where
-  -- a record has the ends that it is made of
+  -- an axis and a record have the ends that they are made of
+  axis-ends : (e : Extent) → (lowOf (axisIn e order) ≡ e .low) × (highOf (axisIn e order) ≡ e .high)
+  axis-ends e = let ends = ends-of (e .low) (e .high) order in (ends .0, ends .1)
+
   record-ends : (e : Extent) → (lowOf (recordIn e order) ≡ e .low) × (highOf (recordIn e order) ≡ e .high)
   unfolding makeAxis axisBy recordBy
   record-ends e = go (firstOf (axisTests (e .low) (e .high) order))
     where
       go : (n : ℕ) → let a = recordBy (axisBy n (axisIn e order)) e order in (lowOf a ≡ e .low) × (highOf a ≡ e .high)
-      go zero = let ends = ends-of (e .low) (e .high) order in (ends .0, ends .1)
+      go zero = axis-ends e
       go (suc n) = (refl, refl)
 
-  -- and is the axis where no test of its ends passes
+  -- a record is the axis where no test of its ends passes
   record-made : (e : Extent) → order ≤ top2 → any valueUnfit (e .low ∷ e .high ∷ []) ≡ false → reversed (e .low) (e .high) ≡ false → axisThin (e .low) (e .high) ≡ false
       → recordIn e order ≡ axisIn e order
-  unfolding makeAxis axisBy axisTests recordBy
-  record-made e few fit ordered thick = rw (le-ltb top2 order few, fit, ordered, thick)
+  unfolding recordBy
+  record-made e few fit ordered thick = rw (made-of-ends e order few fit ordered thick)
 
   -- the records of all sides are the axes
   abbrev AllMade : List Side → Type 0
@@ -67,8 +70,11 @@ givenBy : (Extent → Axis) → List Side → List Given
 givenBy f [] = []
 givenBy f (s ∷ ss) = on (s .points) (f (s .extent)) ∷ givenBy f ss
 
--- a test of the ends alone is a test of low and high
-of-ends : (f : Extent → Axis) → ((e : Extent) → (lowOf (f e) ≡ e .low) × (highOf (f e) ≡ e .high)) → (p : Float → Float → Bool) (ss : List Side)
+-- a test of the ends alone is a test of low and high, on axes that have these ends
+abbrev HasEnds : (Extent → Axis) → Type 0
+HasEnds f = (e : Extent) → (lowOf (f e) ≡ e .low) × (highOf (f e) ≡ e .high)
+
+of-ends : (f : Extent → Axis) → HasEnds f → (p : Float → Float → Bool) (ss : List Side)
     → any (λ g. p (lowOf (g .axis)) (highOf (g .axis))) (givenBy f ss) ≡ any (λ s. p (s .extent .low) (s .extent .high)) ss
 unfolding any givenBy
 of-ends f same p [] = refl
@@ -90,7 +96,7 @@ module _ (most order n : ℕ) (few : most ≤ top2) (lengths : List ℕ) (ss : L
   called f = onTests most order n lengths (givenBy f ss)
 
   -- where one of them passes it gives the number
-  refused-early : (f : Extent → Axis) → ((e : Extent) → (lowOf (f e) ≡ e .low) × (highOf (f e) ≡ e .high)) → (k : ℕ) → firstOf early ≡ suc k → firstOf (called f) ≡ suc k
+  refused-early : (f : Extent → Axis) → HasEnds f → (k : ℕ) → firstOf early ≡ suc k → firstOf (called f) ≡ suc k
   unfolding onTests questions askedOf
   refused-early f same k e =
       first-earlier (take 6 (called f)) (drop 6 (called f)) k
@@ -103,18 +109,21 @@ module _ (most order n : ℕ) (few : most ≤ top2) (lengths : List ℕ) (ss : L
       let fits : order ≤ top2 = omega (arith, ltb-false most order (none .0)) in
       all-made order ss fits (none .1 .1 .1 .0) (none .1 .1 .1 .1 .0) (none .1 .1 .1 .1 .1 .0)
 
-  axis-ends : (e : Extent) → (lowOf (axisIn e order) ≡ e .low) × (highOf (axisIn e order) ≡ e .high)
-  axis-ends e = let ends = ends-of (e .low) (e .high) order in (ends .0, ends .1)
+  abbrev onRecords : List Test
+  onRecords = called (λ e. recordIn e order)
+
+  abbrev onAxes : List Test
+  onAxes = called (λ e. axisIn e order)
 
   -- what is written is the same where the records are the axes
-  files-the-same : (written written' before : List ℕ) → (AllMade order ss → (firstOf (called (λ e. recordIn e order)) ≡ firstOf (called (λ e. axisIn e order))) × (written ≡ written'))
-      → filedBy (firstOf (called (λ e. recordIn e order))) written before ≡ filedBy (firstOf (called (λ e. axisIn e order))) written' before
+  files-the-same : (written written' before : List ℕ) → (AllMade order ss → (firstOf onRecords ≡ firstOf onAxes) × (written ≡ written'))
+      → filedBy (firstOf onRecords) written before ≡ filedBy (firstOf onAxes) written' before
   unfolding sliceBy
   files-the-same written written' before made = go (firstOf early) refl
     where
-      go : (k : ℕ) → firstOf early ≡ k → filedBy (firstOf (called (λ e. recordIn e order))) written before ≡ filedBy (firstOf (called (λ e. axisIn e order))) written' before
+      go : (k : ℕ) → firstOf early ≡ k → filedBy (firstOf onRecords) written before ≡ filedBy (firstOf onAxes) written' before
       go zero e = let m = made (passed-early e) in rw (m .0, m .1)
-      go (suc k) e = rw (refused-early (λ e. recordIn e order) (record-ends order) k e, refused-early (λ e. axisIn e order) axis-ends k e)
+      go (suc k) e = rw (refused-early (λ e. recordIn e order) (record-ends order) k e, refused-early (λ e. axisIn e order) (axis-ends order) k e)
 
 pub files-the-same-2d : (xs ys : List Float) (x y : Extent) (order : ℕ) (before : List ℕ) (xaxis yaxis : Axis) → xaxis ≡ recordIn x order → yaxis ≡ recordIn y order
     → indexOn2 xs ys xaxis yaxis order before ≡ indexIn2 xs ys x y order before

@@ -15,12 +15,12 @@ use Rattle.axis_laws.proofs.AxisAccepts.{ends-of}
 use Rattle.knots_given.specs.Given.{foreign, axisIn}
 
 module _ (e : Extent) (order : ℕ) (few : order ≤ top2) (fit : any valueUnfit (e .low ∷ e .high ∷ []) ≡ false) (ordered : reversed (e .low) (e .high) ≡ false) (thick : axisThin (e .low) (e .high) ≡ false) where
-  is-made : makeAxis (e .low) (e .high) order ≡ made.Made (axisIn e order)
+  pub made-of-ends : makeAxis (e .low) (e .high) order ≡ made.Made (axisIn e order)
   unfolding makeAxis axisBy axisTests
-  is-made = rw (le-ltb top2 order few, fit, ordered, thick)
+  made-of-ends = rw (le-ltb top2 order few, fit, ordered, thick)
 
   pub never-foreign : foreign order (axisIn e order) ≡ false
   unfolding foreign
   never-foreign =
       let ends = ends-of (e .low) (e .high) order in
-      rw (not-made-up (axisIn e order) (rw (ends .0, ends .1, ends .2) is-made), ends .2, eq-eqb order order refl)
+      rw (not-made-up (axisIn e order) (rw (ends .0, ends .1, ends .2) made-of-ends), ends .2, eq-eqb order order refl)

@@ -7,19 +7,19 @@ use mathlib.Core.Path.{_≡_, refl, sym, ap, _∙_}
 use mathlib.Core.Bool.{Bool, true, false, not, _||_}
 use mathlib.Core.List.{List, [], _∷_, _++_}
 use lib.Dec.{eqb, lit≤}
-use lib.ListN.{length, getD, take}
-use lib.Ieee.{Float, lt}
+use lib.ListN.{length, getD}
+use lib.Ieee.{Float}
 use borrow.Author.Tests.{eqb-true, eqb-false, eq-eqb, ltb-false, not-false}
-use Rattle.rules.specs.Sums.{any, list}
-use Rattle.rules.specs.Refusals.{Test, test, firstOf, top2, top3, nought, valueUnfit, axisThin, reversed, outside, indexTests, lengthsOff, orderOver, noPoints, refuse}
-use Rattle.rules.specs.Axis.{axisOf, lowOf, highOf, orderOf, madeUp, extentOf}
+use Rattle.rules.specs.Sums.{any}
+use Rattle.rules.specs.Refusals.{Test, test, firstOf, top2, top3, nought, valueUnfit, axisThin, reversed, outside, indexTests, lengthsOff, orderOver, noPoints}
+use Rattle.rules.specs.Axis.{lowOf, highOf, orderOf, extentOf}
 use Rattle.rules.specs.Knots.{filedBy, someUnfit, someThin, thinOver, axisOver, knot, indexAll2, indexAll3}
-use Rattle.laws.proofs.Any.{none, none-at, neither}
+use Rattle.laws.proofs.Any.{none, none-at}
 use Rattle.laws.proofs.Exactly.{none-passes, first-earlier, first-later}
 use Rattle.axis_laws.proofs.AtMost.{at-most→nlt}
-use Rattle.axis_laws.proofs.Passed.{fit-finite}
-use Rattle.axis_laws.proofs.ExtentHolds.{extent-proper, extent-holds}
-use Rattle.axis_laws.proofs.AxisAccepts.{ends-of, over-not-made-up}
+use Rattle.axis_laws.proofs.Passed.{fit-finite, inside}
+use Rattle.axis_laws.proofs.ExtentHolds.{extent-proper}
+use Rattle.axis_laws.proofs.AxisAccepts.{ends-of, over-not-made-up, accepts}
 use Rattle.knots_given.specs.Given.{Given, on, foreign, questions, askedOf, onTests, indexOn2, indexOn3}
 
 -- ONE AXIS, over fit points
@@ -49,16 +49,11 @@ module _ (order : ℕ) (xs : List Float) where
     unfolding foreign
     own few thick = rw (over-not-made-up xs order some fit few thick, ends .2, eq-eqb order order refl)
 
-    within : any (outside (lowOf (axisOver xs order)) (highOf (axisOver xs order))) xs ≡ false
-    within = none (outside (lowOf (axisOver xs order)) (highOf (axisOver xs order))) nought xs inside
+    within : order ≤ top2 → thinOver xs ≡ false → any (outside (lowOf (axisOver xs order)) (highOf (axisOver xs order))) xs ≡ false
+    within few thick = none (outside (lowOf (axisOver xs order)) (highOf (axisOver xs order))) nought xs held
       where
-        inside : (i : ℕ) → i < length xs → outside (lowOf (axisOver xs order)) (highOf (axisOver xs order)) (getD xs i nought) ≡ false
-        inside i h =
-            let x = getD xs i nought in
-            let p = extent-proper xs some fit in
-            let k = extent-holds xs i fit h in
-            let f = none-at valueUnfit nought xs fit i h in
-            rw (ends .0, ends .1, at-most→nlt x (extentOf xs .low) (fit-finite x f) (fit-finite _ (p .low-fit)) (k .above)) (at-most→nlt (extentOf xs .high) x (fit-finite _ (p .high-fit)) (fit-finite x f) (k .below))
+        held : (i : ℕ) → i < length xs → outside (lowOf (axisOver xs order)) (highOf (axisOver xs order)) (getD xs i nought) ≡ false
+        held i h = let p = inside _ _ _ _ (accepts xs order some fit few thick i h) in rw (p .not-below, p .not-above)
 
 -- ALL AXES
 
@@ -103,12 +98,12 @@ module _ (order : ℕ) where
       fit-points : any (λ g. any valueUnfit (g .points)) (overAll axes) ≡ false
       fit-points = none-over (λ g. any valueUnfit (g .points)) axes fit-at
 
-      all-within : any (λ g. any (outside (lowOf (g .axis)) (highOf (g .axis))) (g .points)) (overAll axes) ≡ false
-      all-within = none-over (λ g. any (outside (lowOf (g .axis)) (highOf (g .axis))) (g .points)) axes (λ i h. within order _ (some i h) (fit-at i h))
+      all-within : someThin axes ≡ false → any (λ g. any (outside (lowOf (g .axis)) (highOf (g .axis))) (g .points)) (overAll axes) ≡ false
+      all-within e = none-over (λ g. any (outside (lowOf (g .axis)) (highOf (g .axis))) (g .points)) axes (λ i h. within order _ (some i h) (fit-at i h) few (none-at thinOver [] axes e i h))
 
       go : (thin : Bool) → someThin axes ≡ thin → firstOf (askedOf (overAll axes) (questions order)) ≡ firstOf (test (someThin axes) 7 ∷ [])
       go true e = rw (fit-ends, ordered, all-as-thin axes, e)
-      go false e = rw (fit-ends, ordered, all-as-thin axes, all-own e, fit-points, all-within)
+      go false e = rw (fit-ends, ordered, all-as-thin axes, all-own e, fit-points, all-within e)
 
 -- a length that is not off
 same-length : (n : ℕ) (lengths : List ℕ) → lengthsOff n lengths ≡ false → (i : ℕ) → i < length lengths → getD lengths i 0 ≡ n

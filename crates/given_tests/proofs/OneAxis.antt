@@ -1,5 +1,5 @@
 -- One axis: its place by what each question says of it, and that it takes its points where none passes. Assumes nothing.
-use Prim.Native.Nat.{ℕ, suc}
+use Prim.Native.Nat.{ℕ, suc, _<_}
 use mathlib.Core.Path.{_≡_, refl, sym, ap, subst, _∙_}
 use mathlib.Core.Bool.{Bool, false, not, _||_, or-false}
 use mathlib.Core.List.{List, [], _∷_}
@@ -21,6 +21,7 @@ use Rattle.knots_given.specs.Given.{on, foreign, questions, askedOf}
 use Rattle.points.specs.Takes.{Takes}
 use Rattle.given_tests.specs.Places.{placeOf}
 
+-- the place by what each question says
 abbrev pub placeBy : Bool → Bool → Bool → Bool → Bool → Bool → ℕ
 placeBy a b c d e f = refuse a 0 (suc (refuse b 0 (suc (refuse c 0 (suc (refuse d 0 (suc (refuse e 0 (suc (refuse f 0 1))))))))))
 
@@ -59,12 +60,15 @@ module _ (xs : List Float) (a : Axis) (order : ℕ) where
         let n = neither _ _ o in
         inside-answered _ _ _ _ (record { made = not-made-up a (rw own-order is); value-fit = f; not-below = n .0; not-above = n .1 })
 
+    at : (i : ℕ) → i < length xs → firstOf (cellTests (madeUp a) (lowOf a) (highOf a) (getD xs i nought)) ≡ 0
+    at i h = accepted (getD xs i nought) (none-at valueUnfit nought xs fit i h) (none-at (outside (lowOf a) (highOf a)) nought xs within i h)
+
     accepting : Takes xs (length xs) order a
     accepting =
         record {
           all = refl;
-          accepts = λ i h. accepted (getD xs i nought) (none-at valueUnfit nought xs fit i h) (none-at (outside (lowOf a) (highOf a)) nought xs within i h);
-          below = λ i h. rw (← own-order) (on-below a _ f64s (accepted (getD xs i nought) (none-at valueUnfit nought xs fit i h) (none-at (outside (lowOf a) (highOf a)) nought xs within i h)));
+          accepts = at;
+          below = λ i h. rw (← own-order) (on-below a _ f64s (at i h));
         }
 
   pub taken : (low high : Float) → low ≡ lowOf a → high ≡ highOf a → makeAxis (lowOf a) (highOf a) order ≡ made.Made a → any valueUnfit xs ≡ false → any (outside low high) xs ≡ false

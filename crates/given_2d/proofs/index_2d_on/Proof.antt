@@ -1,6 +1,6 @@
 -- `given_2d::index_2d_on` meets its contract: the tests of the shape come first, then the earliest place of the two axes has the number; where
 -- none passes, each axis takes its points. Assumes nothing.
-use mathlib.Core.Path.{_≡_, sym, _∙_}
+use mathlib.Core.Path.{_≡_, _∙_}
 use mathlib.Core.List.{[], _∷_}
 use lib.Dec.{lit≤}
 use lib.ListN.{length}

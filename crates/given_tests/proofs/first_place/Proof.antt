@@ -1,13 +1,12 @@
 -- `given_tests::first_place` meets its contract: it asks in the list's order, so each return knows what did not pass before it. Assumes nothing.
-use mathlib.Core.Path.{_≡_, refl, sym, ap, subst, _∙_}
+use mathlib.Core.Path.{_≡_, refl, sym, _∙_}
 use mathlib.Core.Bool.{Bool, true, false}
 use mathlib.Core.List.{[], _∷_}
 use native.Mathlib.Omega.{arith}
 use lib.Ieee.{Float}
 use borrow.Author.Needs.{needs}
 use Rattle.rules.specs.Sums.{any}
-use Rattle.rules.specs.Refusals.{valueUnfit, axisThin, outside}
-use Rattle.rules.specs.Axis.{lowOf, highOf}
+use Rattle.rules.specs.Refusals.{valueUnfit, axisThin}
 use Rattle.given_tests.proofs.OneAxis.{place-is, taken}
 use Rattle.given_tests.proofs.first_place.Statement.{statement}
 use Rattle.given_tests.proofs.first_place.Tie as tie

@@ -1,7 +1,6 @@
 -- `given_tests::number_at` meets its contract: it has the numbers of the list, and 0 behind the last. Assumes nothing.
 use mathlib.Core.Path.{sym}
-use Prim.Native.Nat.{ℕ, _≤_}
-use native.Mathlib.Omega.{arith}
+use Prim.Native.Nat.{_≤_}
 use borrow.Author.Needs.{needs}
 use lib.ListN.{List·getD-eq-default}
 use Rattle.given_tests.specs.Places.{questionNumbers}
