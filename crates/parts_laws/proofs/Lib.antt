@@ -1,0 +1,4 @@
+pub mod Before
+pub mod Merged
+pub mod Sorting
+pub mod Places
