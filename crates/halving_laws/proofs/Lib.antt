@@ -4,6 +4,8 @@ pub mod Weights
 pub mod Reach
 pub mod LoHi
 pub mod Floors
+pub mod Ceilings
+pub mod Editions
 pub mod FairCut
 pub mod Ids
 pub mod Balance
@@ -14,3 +16,4 @@ pub mod Steps
 pub mod Accepted
 pub mod Answers
 pub mod Demand3
+pub mod Once
