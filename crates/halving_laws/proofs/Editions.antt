@@ -2,7 +2,7 @@
 use Prim.Native.Nat.{ℕ, zero, suc, _^_, _<_}
 use native.Mathlib.Omega.{arith}
 use mathlib.Core.Path.{_≡_, refl}
-use Rattle.rules.specs.Halving.{edition1, edition2, editionOf}
+use Rattle.rules.specs.Halving.{hiOf, edition1, edition2, editionOf}
 use Rattle.halving_laws.proofs.LoHi.{lo-limits, hi-limits}
 use Rattle.halving_laws.proofs.Ceilings.{lo-up-limits}
 use Rattle.halving_laws.proofs.FairCut.{Limits}
@@ -20,6 +20,14 @@ only-2-is-edition-2 zero f = refl
 only-2-is-edition-2 (suc zero) f = refl
 only-2-is-edition-2 (suc (suc zero)) f = absurd (f refl)
 only-2-is-edition-2 (suc (suc (suc n))) f = refl
+
+-- hi is the same in every edition
+pub hi-stays : (n : ℕ) → editionOf n .hi ≡ hiOf
+unfolding editionOf
+hi-stays zero = refl
+hi-stays (suc zero) = refl
+hi-stays (suc (suc zero)) = refl
+hi-stays (suc (suc (suc n))) = refl
 
 pub edition-limits : (n t : ℕ) → t < 2 ^ 45 → Limits (editionOf n) t
 unfolding editionOf
