@@ -1,4 +1,4 @@
-//! The named grids G1 to G3, the limits of sides, depth and weights, and each refusal: the partition stays untouched.
+//! The named grids G1 to G3 in both editions, the limits of sides, depth and weights, and each refusal: the partition stays untouched.
 use skarvolm::{Grid, Refused, NOT_CUT};
 
 #[test]
@@ -21,6 +21,29 @@ fn g3() {
     let mut partition = [9; 4];
     assert_eq!(Grid::new_2d(2, 2).rcb(&mut partition, &[1; 4], 2), Ok(vec![1, 0, 0]));
     assert_eq!(partition, [1, 1, 3, 3]);
+}
+
+#[test]
+fn g3_in_edition_2() {
+    let mut partition = [9; 4];
+    assert_eq!(Grid::new_2d(2, 2).halve(2, &mut partition, &[1; 4], 2), Ok(vec![1, 1, 1]));
+    assert_eq!(partition, [0, 1, 2, 3]);
+    let mut partition = [9; 8];
+    assert_eq!(Grid::new_3d(2, 2, 2).halve(2, &mut partition, &[1; 8], 3), Ok(vec![1; 7]));
+    assert_eq!(partition, [0, 1, 4, 5, 2, 3, 6, 7]);
+}
+
+#[test]
+fn edition_1_is_the_one_without_a_number() {
+    let weights: Vec<u64> = (0..60).map(|i| i * 7 % 13).collect();
+    let mut named = [9; 60];
+    let mut unnamed = [9; 60];
+    let by_number = Grid::new_2d(10, 6).halve(1, &mut named, &weights, 4);
+    assert_eq!(by_number, Grid::new_2d(10, 6).rcb(&mut unnamed, &weights, 4));
+    assert_eq!(named, unnamed);
+    let by_number = Grid::new_3d(5, 4, 3).halve(1, &mut named, &weights, 4);
+    assert_eq!(by_number, Grid::new_3d(5, 4, 3).rcb(&mut unnamed, &weights, 4));
+    assert_eq!(named, unnamed);
 }
 
 #[test]
@@ -77,4 +100,14 @@ fn refusals() {
     assert_eq!(refused([2, 2], &heavy[1..], 4, 2), Refused::Lengths);
     assert_eq!(refused([2, 2], &heavy, 3, 2), Refused::Lengths);
     assert_eq!(refused([2, 2], &heavy, 4, 2), Refused::Weight);
+}
+
+#[test]
+fn another_edition_is_refused_before_anything_else() {
+    let mut partition = [9; 4];
+    for edition in [0, 3, u32::MAX] {
+        assert_eq!(Grid::new_2d(0, 2).halve(edition, &mut partition, &[], 13), Err(Refused::Edition));
+        assert_eq!(Grid::new_3d(2, 2, 1).halve(edition, &mut partition, &[1; 4], 2), Err(Refused::Edition));
+    }
+    assert_eq!(partition, [9; 4]);
 }

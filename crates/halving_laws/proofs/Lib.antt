@@ -16,4 +16,3 @@ pub mod Steps
 pub mod Accepted
 pub mod Answers
 pub mod Demand3
-pub mod Once
