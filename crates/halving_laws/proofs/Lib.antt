@@ -5,8 +5,8 @@ pub mod Reach
 pub mod LoHi
 pub mod Floors
 pub mod Ceilings
-pub mod Editions
 pub mod FairCut
+pub mod Editions
 pub mod Ids
 pub mod Balance
 pub mod Heap
