@@ -46,7 +46,13 @@ impl Grid<2> {
     /// assert_eq!(partition, [0, 1, 2, 3]);
     /// # Ok::<(), skarvolm::Refused>(())
     /// ```
-    pub fn halve(self, edition: u32, partition: &mut [u32], weights: &[u64], iter_count: u32) -> Result<Vec<u32>, Refused> {
+    pub fn halve(
+        self,
+        edition: u32,
+        partition: &mut [u32],
+        weights: &[u64],
+        iter_count: u32,
+    ) -> Result<Vec<u32>, Refused> {
         let [width, height] = self.size;
         let mut splits = vec![0; node_count(iter_count)];
         // SAFETY: each pointer and length is a live slice's; `splits` and `partition`, which are written, overlap nothing.
@@ -82,7 +88,13 @@ impl Grid<3> {
     }
 
     /// Halves the grid `iter_count` times, across y first, then z, x, y, as [`Grid::<2>::halve`] does in 2D.
-    pub fn halve(self, edition: u32, partition: &mut [u32], weights: &[u64], iter_count: u32) -> Result<Vec<u32>, Refused> {
+    pub fn halve(
+        self,
+        edition: u32,
+        partition: &mut [u32],
+        weights: &[u64],
+        iter_count: u32,
+    ) -> Result<Vec<u32>, Refused> {
         let [width, height, layers] = self.size;
         let mut splits = vec![0; node_count(iter_count)];
         // SAFETY: each pointer and length is a live slice's; `splits` and `partition`, which are written, overlap nothing.
