@@ -15,6 +15,7 @@
  *   9  a side is 0 or over 1,024, or there are over 65,536 cells
  *  10  depth over 12
  *  11  a weight over 16,777,215
+ *  13  the edition is neither 1 nor 2
  *
  * A pointer is not null and points to live memory, a slice to as many elements as its length says (to any aligned address
  * where that is 0), and what is written overlaps nothing else that is passed.
@@ -83,11 +84,20 @@ uint32_t skarvolm_index_3d_in(double xlow, double xhigh, double ylow, double yhi
 /* Halves a grid depth times: across y first, then x, y, x in 2D, or z, x, y in 3D. Cell (x, y) stands at x + width * y,
  * (x, y, z) at x + width * (y + height * z). One weight and one id a cell; 2^depth - 1 splits, the root's first, those of the
  * halves of node i (counted from 1) at nodes 2i and 2i + 1, in grid coordinates, 4,294,967,295 for a node not cut. Ids are
- * below 2^depth. Tests 9, 10, 5, 11. */
+ * below 2^depth. By edition 1. Tests 9, 10, 5, 11. */
 uint32_t skarvolm_rcb_2d(uint32_t width, uint32_t height, uint32_t depth, const uint64_t *weights, size_t weights_length,
                          uint32_t *splits, size_t splits_length, uint32_t *ids, size_t ids_length);
 uint32_t skarvolm_rcb_3d(uint32_t width, uint32_t height, uint32_t layers, uint32_t depth, const uint64_t *weights,
                          size_t weights_length, uint32_t *splits, size_t splits_length, uint32_t *ids, size_t ids_length);
+
+/* The same by the edition of a number. A cut keeps the left part's weight from lo to hi where it can, within one part in a
+ * hundred of half the block's weight: edition 1 drops the fractions of both, edition 2 rounds lo up, so that two cells of
+ * weight 1 come to lie on two sides. Tests 13, 9, 10, 5, 11. */
+uint32_t skarvolm_halve_2d(uint32_t edition, uint32_t width, uint32_t height, uint32_t depth, const uint64_t *weights,
+                           size_t weights_length, uint32_t *splits, size_t splits_length, uint32_t *ids, size_t ids_length);
+uint32_t skarvolm_halve_3d(uint32_t edition, uint32_t width, uint32_t height, uint32_t layers, uint32_t depth,
+                           const uint64_t *weights, size_t weights_length, uint32_t *splits, size_t splits_length,
+                           uint32_t *ids, size_t ids_length);
 
 #ifdef __cplusplus
 }

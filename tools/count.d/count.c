@@ -26,22 +26,24 @@ struct side {
     uint32_t (*rcb_2d)(uint32_t, uint32_t, uint32_t, const uint64_t *, size_t, uint32_t *, size_t, uint32_t *, size_t);
     uint32_t (*rcb_3d)(uint32_t, uint32_t, uint32_t, uint32_t, const uint64_t *, size_t, uint32_t *, size_t, uint32_t *,
                        size_t);
+    uint32_t (*halve_2d)(uint32_t, uint32_t, uint32_t, uint32_t, const uint64_t *, size_t, uint32_t *, size_t, uint32_t *,
+                         size_t);
 };
 
 static const struct side library = {
     skarvolm_deposit, skarvolm_encode_2d, skarvolm_encode_3d, skarvolm_decode_2d,   skarvolm_decode_3d,
     skarvolm_cell,    skarvolm_index_2d,  skarvolm_index_3d,  skarvolm_index_2d_in, skarvolm_rcb_2d,
-    skarvolm_rcb_3d,
+    skarvolm_rcb_3d, skarvolm_halve_2d,
 };
 static const struct side plain = {
     plain_deposit, plain_encode_2d, plain_encode_3d, plain_decode_2d,   plain_decode_3d,
     plain_cell,    plain_index_2d,  plain_index_3d,  plain_index_2d_in, plain_rcb_2d,
-    plain_rcb_3d,
+    plain_rcb_3d, plain_halve_2d,
 };
 static const struct side empty = {
     empty_deposit, empty_encode_2d, empty_encode_3d, empty_decode_2d,   empty_decode_3d,
     empty_cell,    empty_index_2d,  empty_index_3d,  empty_index_2d_in, empty_rcb_2d,
-    empty_rcb_3d,
+    empty_rcb_3d, empty_halve_2d,
 };
 
 struct operation {
@@ -157,6 +159,13 @@ static void run_rcb_3d(const struct side *s, const struct operation *o, uint32_t
                                      answers.ids, cells);
 }
 
+static void run_halve_2d(const struct side *s, const struct operation *o, uint32_t calls) {
+    size_t cells = cells_of(o), nodes = ((size_t)1 << o->order) - 1;
+    for (uint32_t i = 0; i < calls; i++)
+        answers.refused |=
+            s->halve_2d(2, o->sides[0], o->sides[1], o->order, weights, cells, answers.splits, nodes, answers.ids, cells);
+}
+
 static const struct operation operations[] = {
     {"deposit-12", 12, INPUTS, 1, 0, {0}, run_deposit, "deposit of 12 bits"},
     {"deposit-30", 30, INPUTS, 1, 0, {0}, run_deposit, "deposit of 30 bits"},
@@ -177,6 +186,7 @@ static const struct operation operations[] = {
     {"rcb_2d-32", 0, 1, 1, 8, {32, 32, 1}, run_rcb_2d, "rcb_2d of 32 by 32 at depth 8"},
     {"rcb_2d-256", 0, 1, 1, 8, {256, 256, 1}, run_rcb_2d, "rcb_2d of 256 by 256 at depth 8"},
     {"rcb_3d-16", 0, 1, 1, 6, {16, 16, 16}, run_rcb_3d, "rcb_3d of 16 by 16 by 16 at depth 6"},
+    {"halve_2d-32", 0, 1, 1, 8, {32, 32, 1}, run_halve_2d, "halve_2d, edition 2, of 32 by 32 at depth 8"},
 };
 enum { OPERATIONS = sizeof operations / sizeof *operations };
 

@@ -236,7 +236,7 @@ uint32_t plain_index_2d_in(double xlow, double xhigh, double ylow, double yhigh,
 enum { NOT_CUT = 0xffffffff };
 
 struct halving {
-    uint32_t axes, width, height;
+    uint32_t edition, axes, width, height;
     const uint64_t *weights;
     uint32_t *splits, *ids;
 };
@@ -276,8 +276,11 @@ static uint64_t line_sums(const struct halving *h, const struct block *b, uint32
     return total;
 }
 
-static uint32_t median(const uint64_t *sums, uint32_t lines, uint64_t total) {
-    uint64_t lo = (uint64_t)(int64_t)((double)total / 2 * (1 - 0.01));
+static uint32_t median(const uint64_t *sums, uint32_t lines, uint64_t total, uint32_t edition) {
+    double product = (double)total / 2 * (1 - 0.01);
+    uint64_t lo = (uint64_t)(int64_t)product;
+    if (edition == 2 && (double)lo < product)
+        lo++;
     uint64_t hi = (uint64_t)(int64_t)((double)total / 2 * (1 + 0.01));
     uint64_t sum = 0;
     for (uint32_t j = 0; j < lines; j++) {
@@ -299,7 +302,8 @@ static void halve(const struct halving *h, struct block b, uint32_t axis, uint32
         return;
     }
     uint64_t total = line_sums(h, &b, axis, sums);
-    uint32_t cut = b.from[axis] + median(sums, b.to[axis] - b.from[axis], total), next = (axis + 1) % h->axes;
+    uint32_t cut = b.from[axis] + median(sums, b.to[axis] - b.from[axis], total, h->edition);
+    uint32_t next = (axis + 1) % h->axes;
     struct block left = b, right = b;
     left.to[axis] = right.from[axis] = cut;
     h->splits[node - 1] = cut;
@@ -307,10 +311,12 @@ static void halve(const struct halving *h, struct block b, uint32_t axis, uint32
     halve(h, right, next, 2 * node + 1, 2 * id + 1, depth - 1);
 }
 
-static uint32_t rcb(uint32_t axes, const uint32_t *sides, uint32_t depth, const uint64_t *weights, size_t weights_length,
-                    uint32_t *splits, size_t splits_length, uint32_t *ids, size_t ids_length) {
+static uint32_t rcb(uint32_t edition, uint32_t axes, const uint32_t *sides, uint32_t depth, const uint64_t *weights,
+                    size_t weights_length, uint32_t *splits, size_t splits_length, uint32_t *ids, size_t ids_length) {
     uint64_t cells = 1;
     struct block whole = {{0, 0, 0}, {1, 1, 1}};
+    if (edition != 1 && edition != 2)
+        return 13;
     for (uint32_t a = 0; a < axes; a++) {
         if (sides[a] == 0 || sides[a] > 1024)
             return 9;
@@ -326,7 +332,7 @@ static uint32_t rcb(uint32_t axes, const uint32_t *sides, uint32_t depth, const 
     for (size_t i = 0; i < cells; i++)
         if (weights[i] > 16777215)
             return 11;
-    struct halving h = {axes, sides[0], sides[1], weights, splits, ids};
+    struct halving h = {edition, axes, sides[0], sides[1], weights, splits, ids};
     halve(&h, whole, 1, 1, 0, depth);
     return 0;
 }
@@ -334,11 +340,17 @@ static uint32_t rcb(uint32_t axes, const uint32_t *sides, uint32_t depth, const 
 uint32_t plain_rcb_2d(uint32_t width, uint32_t height, uint32_t depth, const uint64_t *weights, size_t weights_length,
                       uint32_t *splits, size_t splits_length, uint32_t *ids, size_t ids_length) {
     uint32_t sides[2] = {width, height};
-    return rcb(2, sides, depth, weights, weights_length, splits, splits_length, ids, ids_length);
+    return rcb(1, 2, sides, depth, weights, weights_length, splits, splits_length, ids, ids_length);
 }
 
 uint32_t plain_rcb_3d(uint32_t width, uint32_t height, uint32_t layers, uint32_t depth, const uint64_t *weights,
                       size_t weights_length, uint32_t *splits, size_t splits_length, uint32_t *ids, size_t ids_length) {
     uint32_t sides[3] = {width, height, layers};
-    return rcb(3, sides, depth, weights, weights_length, splits, splits_length, ids, ids_length);
+    return rcb(1, 3, sides, depth, weights, weights_length, splits, splits_length, ids, ids_length);
+}
+
+uint32_t plain_halve_2d(uint32_t edition, uint32_t width, uint32_t height, uint32_t depth, const uint64_t *weights,
+                        size_t weights_length, uint32_t *splits, size_t splits_length, uint32_t *ids, size_t ids_length) {
+    uint32_t sides[2] = {width, height};
+    return rcb(edition, 2, sides, depth, weights, weights_length, splits, splits_length, ids, ids_length);
 }

@@ -26,17 +26,39 @@ impl Grid<2> {
         Self { size: [width, height] }
     }
 
+    /// Halves the grid `iter_count` times by edition 1, coupe's: see [`Grid::<2>::halve`].
+    pub fn rcb(self, partition: &mut [u32], weights: &[u64], iter_count: u32) -> Result<Vec<u32>, Refused> {
+        self.halve(1, partition, weights, iter_count)
+    }
+
     /// Halves the grid `iter_count` times, across y first, then x, y, x: writes the part of each cell, and returns the cuts.
     ///
     /// There are 2^iter_count - 1 cuts, the root's first, those of the halves of node i (counted from 1) at nodes 2i and
-    /// 2i + 1, in grid coordinates, [`NOT_CUT`] for a node not cut. Refuses by [`Refused::Sides`], [`Refused::Depth`] (of
-    /// `iter_count`), [`Refused::Lengths`], [`Refused::Weight`], and leaves `partition` untouched then.
-    pub fn rcb(self, partition: &mut [u32], weights: &[u64], iter_count: u32) -> Result<Vec<u32>, Refused> {
+    /// 2i + 1, in grid coordinates, [`NOT_CUT`] for a node not cut. `edition` is 1 or 2: 2 rounds up the least that a left part
+    /// should weigh, where 1 drops its fraction. Refuses by [`Refused::Edition`], [`Refused::Sides`], [`Refused::Depth`] (of
+    /// `iter_count`), [`Refused::Lengths`], [`Refused::Weight`], in this order, and leaves `partition` untouched then.
+    ///
+    /// ```
+    /// use skarvolm::Grid;
+    ///
+    /// let mut partition = [0; 4];
+    /// Grid::new_2d(2, 2).halve(2, &mut partition, &[1; 4], 2)?;
+    /// assert_eq!(partition, [0, 1, 2, 3]);
+    /// # Ok::<(), skarvolm::Refused>(())
+    /// ```
+    pub fn halve(
+        self,
+        edition: u32,
+        partition: &mut [u32],
+        weights: &[u64],
+        iter_count: u32,
+    ) -> Result<Vec<u32>, Refused> {
         let [width, height] = self.size;
         let mut splits = vec![0; node_count(iter_count)];
         // SAFETY: each pointer and length is a live slice's; `splits` and `partition`, which are written, overlap nothing.
         let number = unsafe {
-            sys::skarvolm_rcb_2d(
+            sys::skarvolm_halve_2d(
+                edition,
                 width,
                 height,
                 iter_count,
@@ -60,13 +82,25 @@ impl Grid<3> {
         }
     }
 
-    /// Halves the grid `iter_count` times, across y first, then z, x, y, as [`Grid::<2>::rcb`] does in 2D.
+    /// Halves the grid `iter_count` times by edition 1, coupe's: see [`Grid::<3>::halve`].
     pub fn rcb(self, partition: &mut [u32], weights: &[u64], iter_count: u32) -> Result<Vec<u32>, Refused> {
+        self.halve(1, partition, weights, iter_count)
+    }
+
+    /// Halves the grid `iter_count` times, across y first, then z, x, y, as [`Grid::<2>::halve`] does in 2D.
+    pub fn halve(
+        self,
+        edition: u32,
+        partition: &mut [u32],
+        weights: &[u64],
+        iter_count: u32,
+    ) -> Result<Vec<u32>, Refused> {
         let [width, height, layers] = self.size;
         let mut splits = vec![0; node_count(iter_count)];
         // SAFETY: each pointer and length is a live slice's; `splits` and `partition`, which are written, overlap nothing.
         let number = unsafe {
-            sys::skarvolm_rcb_3d(
+            sys::skarvolm_halve_3d(
+                edition,
                 width,
                 height,
                 layers,

@@ -57,7 +57,8 @@ extern "C" {
         indices: *mut u64,
         indices_length: usize,
     ) -> u32;
-    pub fn skarvolm_rcb_2d(
+    pub fn skarvolm_halve_2d(
+        edition: u32,
         width: u32,
         height: u32,
         depth: u32,
@@ -68,7 +69,8 @@ extern "C" {
         ids: *mut u32,
         ids_length: usize,
     ) -> u32;
-    pub fn skarvolm_rcb_3d(
+    pub fn skarvolm_halve_3d(
+        edition: u32,
         width: u32,
         height: u32,
         layers: u32,

@@ -1,4 +1,4 @@
-//! The named grids G1 to G3, the limits of sides, depth and weights, and each refusal: the partition stays untouched.
+//! The named grids G1 to G3 in both editions, the limits of sides, depth and weights, and each refusal: the partition stays untouched.
 use skarvolm::{Grid, Refused, NOT_CUT};
 
 #[test]
@@ -21,6 +21,36 @@ fn g3() {
     let mut partition = [9; 4];
     assert_eq!(Grid::new_2d(2, 2).rcb(&mut partition, &[1; 4], 2), Ok(vec![1, 0, 0]));
     assert_eq!(partition, [1, 1, 3, 3]);
+}
+
+#[test]
+fn g3_in_edition_2() {
+    let mut partition = [9; 4];
+    assert_eq!(
+        Grid::new_2d(2, 2).halve(2, &mut partition, &[1; 4], 2),
+        Ok(vec![1, 1, 1])
+    );
+    assert_eq!(partition, [0, 1, 2, 3]);
+    let mut partition = [9; 8];
+    assert_eq!(
+        Grid::new_3d(2, 2, 2).halve(2, &mut partition, &[1; 8], 3),
+        Ok(vec![1; 7])
+    );
+    assert_eq!(partition, [0, 1, 4, 5, 2, 3, 6, 7]);
+}
+
+#[test]
+fn g1_and_g2_are_the_same_in_edition_2() {
+    let mut partition = [9; 16];
+    assert_eq!(
+        Grid::new_2d(4, 4).halve(2, &mut partition, &[1; 16], 2),
+        Ok(vec![2, 2, 2])
+    );
+    assert_eq!(partition, [0, 0, 1, 1, 0, 0, 1, 1, 2, 2, 3, 3, 2, 2, 3, 3]);
+    let mut partition = [9; 4];
+    let splits = Grid::new_2d(4, 1).halve(2, &mut partition, &[10, 20, 30, 40], 3);
+    assert_eq!(splits, Ok(vec![0, 0, 2, NOT_CUT, NOT_CUT, 0, 0]));
+    assert_eq!(partition, [5, 5, 7, 7]);
 }
 
 #[test]
@@ -77,4 +107,20 @@ fn refusals() {
     assert_eq!(refused([2, 2], &heavy[1..], 4, 2), Refused::Lengths);
     assert_eq!(refused([2, 2], &heavy, 3, 2), Refused::Lengths);
     assert_eq!(refused([2, 2], &heavy, 4, 2), Refused::Weight);
+}
+
+#[test]
+fn another_edition_is_refused_before_anything_else() {
+    let mut partition = [9; 4];
+    for edition in [0, 3, u32::MAX] {
+        assert_eq!(
+            Grid::new_2d(0, 2).halve(edition, &mut partition, &[], 13),
+            Err(Refused::Edition)
+        );
+        assert_eq!(
+            Grid::new_3d(2, 2, 1).halve(edition, &mut partition, &[1; 4], 2),
+            Err(Refused::Edition)
+        );
+    }
+    assert_eq!(partition, [9; 4]);
 }

@@ -37,7 +37,7 @@ fn with_digit(number: u64, digit: u64) -> u64 {
 // The number that tells a request; one that is not ended has no parts.
 fn request_of(name: &[u8], sheet: &[u64; 331776]) -> u64 {
     let call = number_in(
-        b"deposit encode_2d encode_3d decode_2d decode_3d cell cell_flat cell_sloped extent_of rcb_2d rcb_3d index_2d index_3d index_2d_in index_3d_in",
+        b"deposit encode_2d encode_3d decode_2d decode_3d cell cell_flat cell_sloped extent_of rcb_2d rcb_3d index_2d index_3d index_2d_in index_3d_in halve_2d halve_3d",
         name,
     );
     if sheet[WANTED] == 0 {
@@ -90,9 +90,10 @@ pub(crate) fn call(name: &[u8], sheet: &mut [u64; 331776]) {
     let request = request_of(name, sheet);
     sheet[ANSWERED] = sheet[NEXT];
     match request {
-        1043 | 1144 => grids::rcb(sheet),
+        1043 | 1144 => grids::rcb(0, sheet),
         1240 | 1241 | 1445 => points::index(request, 7, sheet),
         1350 | 1351 | 1557 => points::index(request, 8, sheet),
+        1644 | 1745 => grids::rcb(1, sheet),
         _ => call_few(request, sheet),
     }
 }

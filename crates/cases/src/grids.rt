@@ -1,9 +1,10 @@
 // Calls that halve a grid: `width height depth / weights / splits / ids`, with the layers behind the height in 3D, where the last
-// two parts are what the slices hold before.
+// two parts are what the slices hold before. A call that names its edition has the number of that first of all.
 use crate::calls::small;
 use crate::sheet::least;
 use crate::sheet::numbers_at;
 use crate::sheet::put;
+use rules::DEFAULT_EDITION;
 use rules::Halving2;
 use rules::Halving3;
 ghost use Prim.Native.Nat.{_<_};
@@ -50,7 +51,7 @@ fn put_first(room: &[u32; 65536], said: usize, sheet: &mut [u64; 331776])
     }
 }
 
-// Side k of a request, the depth behind the sides; 0 where there is none.
+// Number k of a request's first part; 0 where there is none.
 fn side(sides: &[u64], k: usize) -> u32 {
     if k < sides.len() {
         return small(sides[k]);
@@ -58,13 +59,25 @@ fn side(sides: &[u64], k: usize) -> u32 {
     0
 }
 
-// Halves by the first part of the request, the sides and the depth: in 2D where it has three numbers.
-fn halve(sides: &[u64], weights: &[u64], splits: &mut [u32], ids: &mut [u32]) -> u32 {
-    let width = side(sides, 0);
-    let height = side(sides, 1);
-    let third = side(sides, 2);
-    if sides.len() == 3 {
+// The edition that is the first of a request's numbers, where `named` is 1 and not 0.
+fn edition_of(sides: &[u64], named: usize) -> u32 {
+    if named == 0 {
+        return DEFAULT_EDITION;
+    }
+    side(sides, 0)
+}
+
+// Halves by the first part of the request, behind the edition the sides and the depth: in 2D where these are three numbers.
+fn halve(sides: &[u64], named: usize, weights: &[u64], splits: &mut [u32], ids: &mut [u32]) -> u32
+    requires { ⌜ named < 2 ⌝ }
+{
+    let edition = edition_of(sides, named);
+    let width = side(sides, named);
+    let height = side(sides, named + 1);
+    let third = side(sides, named + 2);
+    if sides.len() == named + 3 {
         let halving = Halving2 {
+            edition,
             width,
             height,
             depth: third,
@@ -72,20 +85,31 @@ fn halve(sides: &[u64], weights: &[u64], splits: &mut [u32], ids: &mut [u32]) ->
         return halving::rcb_2d(halving, weights, splits, ids);
     }
     let halving = Halving3 {
+        edition,
         width,
         height,
         layers: third,
-        depth: side(sides, 3),
+        depth: side(sides, named + 3),
     };
     halving::rcb_3d(halving, weights, splits, ids)
 }
 
 // Halves with the first s splits and c ids of the rooms.
-fn halve_first(sheet: &[u64], splits: &mut [u32], s: usize, ids: &mut [u32], c: usize) -> u32 {
+fn halve_first(
+    sheet: &[u64],
+    named: usize,
+    splits: &mut [u32],
+    s: usize,
+    ids: &mut [u32],
+    c: usize,
+) -> u32
+    requires { ⌜ named < 2 ⌝ }
+{
     let most_splits = least(s, splits.len());
     let most_ids = least(c, ids.len());
     halve(
         numbers_at(sheet, SIDES),
+        named,
         numbers_at(sheet, WEIGHTS),
         &mut splits[..most_splits],
         &mut ids[..most_ids],
@@ -93,17 +117,21 @@ fn halve_first(sheet: &[u64], splits: &mut [u32], s: usize, ids: &mut [u32], c: 
 }
 
 // Halves in rooms for the splits and the ids.
-fn halve_in(sheet: &[u64], splits: &mut [u32; 65536], ids: &mut [u32; 65536]) -> u32 {
+fn halve_in(sheet: &[u64], named: usize, splits: &mut [u32; 65536], ids: &mut [u32; 65536]) -> u32
+    requires { ⌜ named < 2 ⌝ }
+{
     let s = narrowed(sheet, SPLITS, splits);
     let c = narrowed(sheet, IDS, ids);
-    halve_first(sheet, splits, s, ids, c)
+    halve_first(sheet, named, splits, s, ids, c)
 }
 
-// rcb_2d and rcb_3d
-pub(crate) fn rcb(sheet: &mut [u64; 331776]) {
+// rcb_2d and rcb_3d; with `named` 1, halve_2d and halve_3d
+pub(crate) fn rcb(named: usize, sheet: &mut [u64; 331776])
+    requires { ⌜ named < 2 ⌝ }
+{
     let mut splits = [0u32; 65536];
     let mut ids = [0u32; 65536];
-    let number = halve_in(sheet, &mut splits, &mut ids);
+    let number = halve_in(sheet, named, &mut splits, &mut ids);
     put(sheet, 1, number as u64);
     put_first(&splits, SPLITS, sheet);
     put_first(&ids, IDS, sheet);

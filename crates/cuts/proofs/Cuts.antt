@@ -6,7 +6,7 @@ use mathlib.Core.List.{List}
 use Rattle.rules.specs.Sums.{total}
 use Rattle.rules.specs.Grid.{weight, line}
 use Rattle.rules.specs.Refusals.{topSide}
-use Rattle.rules.specs.Halving.{edition1, loOf, hiOf, cutAt}
+use Rattle.rules.specs.Halving.{editionOf, cutAt}
 use Rattle.halving_laws.proofs.Totals.{total-ext}
 use Rattle.halving_laws.proofs.Reach.{cut-ext, cut-inside}
 use Rattle.halving_laws.proofs.Nested.{line-is-thin}
@@ -46,16 +46,16 @@ module _ {s : Shape} {g : Grid} {ws : List ℕ} {b : SubGrid} {t : ℕ} (r : Sou
       ∙ weight-is-solid g ws s (slab ax b i) (lies-lines (r .lies) ax i 1 (omega arith)) (layer-slab s ax b i h (r .one-layer))
 
   -- the cut of the lines is the rule's cut of the block
-  pub cut-on : edge ax b + cutLine g ws ax b t ≡ cutAt edition1 (sidesOf s g) ws (no ax) (asBlock s b)
+  pub cut-on : edge ax b + cutLine g ws ax b t ≡ cutAt (editionOf (g .edition)) (sidesOf s g) ws (no ax) (asBlock s b)
   unfolding cutAt
   cut-on =
       let f : ℕ → ℕ = λ i. line (sidesOf s g) ws (asBlock s b) (no ax) (edge ax b + i) in
       rw (block-edge s ax b h, block-side s ax b h, ← r .weight)
-      (ap (λ (k : ℕ). edge ax b + k) (sym (cut-ext f _ (side ax b) (loOf t) (hiOf t) line-is-solid)))
+      (ap (λ (k : ℕ). edge ax b + k) (sym (cut-ext f _ (side ax b) (editionOf (g .edition) .lo t) (editionOf (g .edition) .hi t) line-is-solid)))
 
   module _ (some : 0 < side ax b) where
     pub line-inside : cutLine g ws ax b t < side ax b
-    line-inside = cut-inside (lineWeight g ws ax b) (side ax b) (loOf t) (hiOf t) some
+    line-inside = cut-inside (lineWeight g ws ax b) (side ax b) (editionOf (g .edition) .lo t) (editionOf (g .edition) .hi t) some
 
     first-weighs : total (lineWeight g ws ax b) (cutLine g ws ax b t) ≡ weight (sidesOf s g) ws (asBlock s (leftPart ax b (cutLine g ws ax b t)))
     first-weighs =

@@ -4,7 +4,7 @@ use native.Mathlib.Omega.{arith}
 use mathlib.Core.Path.{_≡_, refl, _∙_}
 use mathlib.Core.List.{List}
 use lib.ListN.{length, set}
-use Rattle.rules.specs.Halving.{edition1, nextAxis}
+use Rattle.rules.specs.Halving.{editionOf, nextAxis}
 use Rattle.halving_laws.proofs.Steps.{fill-end, fill-flat, fill-cut}
 use Rattle.blocks.specs.Blocks.{Shape, twoAxes, threeAxes, Across, acrossX, acrossY, acrossZ, Has, no, inTurn, sidesOf, asBlock, side, edge}
 use Rattle.blocks.specs.declared.Grid.{Grid}
@@ -27,11 +27,11 @@ in-turn threeAxes acrossZ g h = refl
 module _ (s : Shape) (g : Grid) (ws : List ℕ) (d : ℕ) (ax : Across) (b : SubGrid) (node : ℕ) where
   pub tree-end : (splits : List ℕ) → d ≡ 0 → splits ≡ tree s g ws d ax b node splits
   unfolding tree
-  tree-end splits z = fill-end edition1 (sidesOf s g) ws d (no ax) (asBlock s b) node splits z
+  tree-end splits z = fill-end (editionOf (g .edition)) (sidesOf s g) ws d (no ax) (asBlock s b) node splits z
 
   pub tree-flat : (splits : List ℕ) → Has s ax → side ax b ≡ 0 → splits ≡ tree s g ws d ax b node splits
   unfolding tree
-  tree-flat splits h z = fill-flat edition1 (sidesOf s g) ws d (no ax) (asBlock s b) node splits (block-side s ax b h ∙ z)
+  tree-flat splits h z = fill-flat (editionOf (g .edition)) (sidesOf s g) ws d (no ax) (asBlock s b) node splits (block-side s ax b h ∙ z)
 
   pub tree-cut : {t : ℕ} → Sound s g ws b t → (splits splits₁ splits₂ : List ℕ) (c : Cut) → Has s ax → (d ≡ 0 → ⊥) → 0 < side ax b → c ≡ cutInto g ws ax b t
       → splits₁ ≡ tree s g ws (d - 1) (inTurn s ax) (c .first) (2 * node) (set splits (node - 1) (c .split))
@@ -42,4 +42,4 @@ module _ (s : Shape) (g : Grid) (ws : List ℕ) (d : ℕ) (ax : Across) (b : Sub
       let at : ℕ = cutLine g ws ax b t in
       let l = line-inside r ax h k in
       rw (q, p, e, ← in-turn s ax g h, block-left s ax b at h l, block-right s ax b at h l)
-      (fill-cut edition1 (sidesOf s g) ws d (no ax) (asBlock s b) node (edge ax b + at) splits f (λ z. omega (arith, block-side s ax b h)) (cut-on r ax h))
+      (fill-cut (editionOf (g .edition)) (sidesOf s g) ws d (no ax) (asBlock s b) node (edge ax b + at) splits f (λ z. omega (arith, block-side s ax b h)) (cut-on r ax h))

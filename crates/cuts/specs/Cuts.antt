@@ -6,7 +6,7 @@ use lib.ListN.{length, drop}
 use Rattle.rules.specs.Sums.{total, list}
 use Rattle.rules.specs.Grid.{weight}
 use Rattle.rules.specs.Refusals.{topSide}
-use Rattle.rules.specs.Halving.{loOf, hiOf, cutOf}
+use Rattle.rules.specs.Halving.{editionOf, cutOf}
 use Rattle.lines.specs.Stacks.{solidSum, Light}
 use Rattle.lines.specs.declared.Stack.{Stack}
 use Rattle.blocks.specs.Blocks.{Shape, Across, sidesOf, asBlock, start, side, edge, slab, leftPart, rightPart, OneLayer}
@@ -25,9 +25,9 @@ solid g ws b = solidSum ws (start g b) (stackOf g b) (b .layers)
 abbrev pub lineWeight : Grid → List ℕ → Across → SubGrid → ℕ → ℕ
 lineWeight g ws ax b i = solid g ws (slab ax b i)
 
--- the cut of a block of weight t by its lines' weights, and the parts that it leaves
+-- the cut of a block of weight t by its lines' weights, for lo and hi of the grid's edition, and the parts that it leaves
 abbrev pub cutLine : Grid → List ℕ → Across → SubGrid → ℕ → ℕ
-cutLine g ws ax b t = cutOf (lineWeight g ws ax b) (side ax b) (loOf t) (hiOf t)
+cutLine g ws ax b t = cutOf (lineWeight g ws ax b) (side ax b) (editionOf (g .edition) .lo t) (editionOf (g .edition) .hi t)
 
 unfoldable pub cutInto : Grid → List ℕ → Across → SubGrid → ℕ → Cut
 cutInto g ws ax b t =

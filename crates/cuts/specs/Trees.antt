@@ -1,10 +1,10 @@
--- The rule's tree below a block of the code.
+-- The rule's tree below a block of the code, by the edition of its grid.
 use Prim.Native.Nat.{ℕ}
 use mathlib.Core.List.{List}
-use Rattle.rules.specs.Halving.{edition1, fill}
+use Rattle.rules.specs.Halving.{editionOf, fill}
 use Rattle.blocks.specs.Blocks.{Shape, Across, no, sidesOf, asBlock}
 use Rattle.blocks.specs.declared.Grid.{Grid}
 use Rattle.blocks.specs.declared.SubGrid.{SubGrid}
 
 unfoldable pub tree : Shape → Grid → List ℕ → ℕ → Across → SubGrid → ℕ → List ℕ → List ℕ
-tree s g ws k ax b node splits = fill edition1 (sidesOf s g) ws k (no ax) (asBlock s b) node splits
+tree s g ws k ax b node splits = fill (editionOf (g .edition)) (sidesOf s g) ws k (no ax) (asBlock s b) node splits

@@ -12,7 +12,7 @@ ghost use mathlib.Core.Path.{_≡_};
 ghost use Prim.Native.Nat.{_*_, _<_};
 ghost use lib.ListN.{length};
 ghost use Rattle.rules.specs.Refusals.{topSide};
-ghost use Rattle.rules.specs.Halving.{loOf, hiOf};
+ghost use Rattle.rules.specs.Halving.{editionOf};
 ghost use Rattle.median.specs.Median.{CutIs};
 ghost use Rattle.blocks.specs.Blocks.{across, side};
 ghost use Rattle.cuts.specs.Cuts.{stackOf, solid, lineWeight, cutInto, filled, Lies};
@@ -60,7 +60,7 @@ fn cut_place(
     requires { ⌜ Lies g (now weights) b ⌝ }
     requires { ⌜ (0 < side (across axis) b) × (total < 35184372088832) ⌝ }
     requires { ⌜ length (now sums) ≡ topSide ⌝ }
-    ensures cut { λ r. ⌜ CutIs (lineWeight g (now (weights .entry)) (across axis) b) (side (across axis) b) (loOf total) (hiOf total) (r .position) (r .left) ⌝ }
+    ensures cut { λ r. ⌜ CutIs (lineWeight g (now (weights .entry)) (across axis) b) (side (across axis) b) (editionOf (g .edition) .lo total) (editionOf (g .edition) .hi total) (r .position) (r .left) ⌝ }
     ensures lines { λ _. ⌜ now (sums .exit) ≡ filled g (now (weights .entry)) (across axis) b (now (sums .entry)) ⌝ }
 {
     let m = blocks::side(axis, b);
@@ -68,7 +68,7 @@ fn cut_place(
     let jump = blocks::stride(axis, g);
     let line = stack(g, blocks::left_part(axis, b, 1));
     lines::line_sums(weights, start, jump, m, line, sums);
-    let lo = median::min_part_weight(total);
+    let lo = median::min_part_weight(g.edition, total);
     let hi = median::max_part_weight(total);
     median::weighted_median(sums, m, lo, hi)
 }

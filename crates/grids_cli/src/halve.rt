@@ -41,6 +41,7 @@ fn first(weights: &[u64], n: usize) -> &[u64] {
 // Halves a grid of one layer; the number of refusal.
 fn halve_2d(shape: Shape, depth: u32, weights: &[u64], splits: &mut [u32], ids: &mut [u32]) -> u32 {
     let halving = Halving2 {
+        edition: 1,
         width: side(shape.width),
         height: side(shape.height),
         depth,
@@ -51,6 +52,7 @@ fn halve_2d(shape: Shape, depth: u32, weights: &[u64], splits: &mut [u32], ids: 
 // Halves a grid of several layers; the number of refusal.
 fn halve_3d(shape: Shape, depth: u32, weights: &[u64], splits: &mut [u32], ids: &mut [u32]) -> u32 {
     let halving = Halving3 {
+        edition: 1,
         width: side(shape.width),
         height: side(shape.height),
         layers: side(shape.layers),

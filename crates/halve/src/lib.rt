@@ -1,7 +1,7 @@
 // The splits and ids of a grid that is not refused, inside: `halving` calls it.
 //
-// The splits are the rule's, and the ids those that the rule makes of them (halve-2d-only, halve-3d-only). The first cut is
-// across y.
+// The splits are the rule's, and the ids those that the rule makes of them (halve-2d-only, halve-3d-only). The edition is
+// the grid's, and the first cut is across y.
 use blocks::Grid;
 use blocks::Y;
 use rules::UNCUT;

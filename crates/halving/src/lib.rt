@@ -1,5 +1,7 @@
 // Halving a grid: recursive coordinate bisection, cutting across y and x in turn in 2D, and across y, z and x in 3D.
 //
+//   halving  the edition, the sides and the depth; Halving2::of and Halving3::of name no edition, which means 1. Edition 1
+//            drops the fraction of the least that a left part should weigh, edition 2 rounds it up
 //   weights  one for each cell: cell (x, y, z) stands at x + width * (y + height * z)
 //   splits   node i at place i - 1, the root being 1 and the children of i being 2i and 2i + 1: the cut in grid
 //            coordinates, or UNCUT

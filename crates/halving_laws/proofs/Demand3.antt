@@ -6,25 +6,18 @@ use lib.Dec.{lit≤}
 use lib.ListN.{getD, length}
 use Rattle.rules.specs.Grid.{cells, whole, allWeight}
 use Rattle.rules.specs.Refusals.{topWeight, sliceBy}
-use Rattle.rules.specs.Halving.{edition1, uncut, Halving, halving2, halving3, splitsBy, idsBy, halve}
+use Rattle.rules.specs.Halving.{editionOf, uncut, Halving, halving2, halving3, splitsBy, idsBy, halve}
 use Rattle.rules.specs.Demands.{Demand3Of, Demand3In2D, Demand3In3D}
 use Rattle.halving_laws.specs.Fair.{FairTree, Structured}
 use Rattle.halving_laws.specs.Accepted.{Accepted}
 use Rattle.halving_laws.proofs.Totals.{total-le}
 use Rattle.halving_laws.proofs.Blocks.{whole-length, whole-below}
-use Rattle.halving_laws.proofs.LoHi.{lo-limits, hi-limits}
+use Rattle.halving_laws.proofs.Editions.{edition-limits}
 use Rattle.halving_laws.proofs.FairCut.{Limits}
 use Rattle.halving_laws.proofs.Ids.{ids-below, parts-add-up}
 use Rattle.halving_laws.proofs.Filled.{splits-follow, follows-fair, follows-structured}
 use Rattle.halving_laws.proofs.Balance.{fair-tree-is-balanced}
 use Rattle.halving_laws.proofs.Accepted.{accepted}
-
--- edition 1 keeps to the limits
-pub edition1-limits : (t : ℕ) → t < 2 ^ 45 → Limits edition1 t
-edition1-limits t h =
-    let l = lo-limits t h in
-    let u = hi-limits t h in
-    omega arith
 
 -- all cells weigh less than 2 ^ 45
 pub weight-fits : {h : Halving} {ws splits ids : List ℕ} → Accepted h ws splits ids → allWeight (h .sides) ws < 2 ^ 45
@@ -32,18 +25,18 @@ unfolding allWeight
 weight-fits {h} {ws} r =
     omega (arith, r .few, total-le (λ c. getD ws c 0) topWeight (cells (h .sides)) (λ c l. r .light c (omega (arith, r .weights-long))))
 
-module _ (h : Halving) (limits : (t : ℕ) → t < 2 ^ 45 → Limits (h .edition) t) (axis : h .first < length (h .sides)) where
+module _ (h : Halving) (limits : (t : ℕ) → t < 2 ^ 45 → Limits (editionOf (h .edition)) t) (axis : h .first < length (h .sides)) where
   -- the rule's cuts are fair
   pub fair : {ws splits ids : List ℕ} → Accepted h ws splits ids → FairTree (h .sides) ws (splitsBy h ws) (h .depth) (h .first) 1 (whole (h .sides))
   fair {ws} r =
-      follows-fair (h .edition) (h .sides) ws (splitsBy h ws) (h .depth) (h .first) 1 (whole (h .sides))
-      (λ t l. limits t (omega (arith, weight-fits r))) axis (whole-length (h .sides)) (splits-follow (h .edition) (h .sides) ws (h .first) (h .depth))
+      follows-fair (editionOf (h .edition)) (h .sides) ws (splitsBy h ws) (h .depth) (h .first) 1 (whole (h .sides))
+      (λ t l. limits t (omega (arith, weight-fits r))) axis (whole-length (h .sides)) (splits-follow (editionOf (h .edition)) (h .sides) ws (h .first) (h .depth))
 
   -- each cut lies in its block, and a node is uncut just where its side is 0 or its parent is uncut
   pub structured : {ws splits ids : List ℕ} → Accepted h ws splits ids → Structured (splitsBy h ws) (length (h .sides)) (h .depth) (h .first) 1 (whole (h .sides))
   structured {ws} r =
-      follows-structured (h .edition) (h .sides) ws (splitsBy h ws) (h .depth) (h .first) 1 (whole (h .sides))
-      (whole-below uncut (h .sides) (λ a l. omega (arith, r .sides-fit a l))) (splits-follow (h .edition) (h .sides) ws (h .first) (h .depth))
+      follows-structured (editionOf (h .edition)) (h .sides) ws (splitsBy h ws) (h .depth) (h .first) 1 (whole (h .sides))
+      (whole-below uncut (h .sides) (λ a l. omega (arith, r .sides-fit a l))) (splits-follow (editionOf (h .edition)) (h .sides) ws (h .first) (h .depth))
 
   pub demand-3 : Demand3Of h
   unfolding halve sliceBy
@@ -55,7 +48,7 @@ module _ (h : Halving) (limits : (t : ℕ) → t < 2 ^ 45 → Limits (h .edition
       })
 
 pub demand-3-in-2d : Demand3In2D
-demand-3-in-2d h = demand-3 (halving2 h) edition1-limits (lit≤ tt)
+demand-3-in-2d h = demand-3 (halving2 h) (edition-limits (h .edition)) (lit≤ tt)
 
 pub demand-3-in-3d : Demand3In3D
-demand-3-in-3d h = demand-3 (halving3 h) edition1-limits (lit≤ tt)
+demand-3-in-3d h = demand-3 (halving3 h) (edition-limits (h .edition)) (lit≤ tt)

@@ -4,7 +4,9 @@ pub mod Weights
 pub mod Reach
 pub mod LoHi
 pub mod Floors
+pub mod Ceilings
 pub mod FairCut
+pub mod Editions
 pub mod Ids
 pub mod Balance
 pub mod Heap

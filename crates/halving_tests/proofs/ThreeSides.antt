@@ -21,6 +21,6 @@ products-fit w h d a b c =
     (hd, mul-le-mul (side-fits w a .1) hd)
 
 -- a grid in 2D and its one layer are refused alike
-pub one-layer : (w h k : ℕ) (ws : List ℕ) (ids splits : ℕ) → firstOf (gridTests (w ∷ h ∷ 1 ∷ []) k ws ids splits) ≡ firstOf (gridTests (w ∷ h ∷ []) k ws ids splits)
+pub one-layer : (e w h k : ℕ) (ws : List ℕ) (ids splits : ℕ) → firstOf (gridTests e (w ∷ h ∷ 1 ∷ []) k ws ids splits) ≡ firstOf (gridTests e (w ∷ h ∷ []) k ws ids splits)
 unfolding gridTests any cells
-one-layer w h k ws ids splits = refl
+one-layer e w h k ws ids splits = refl

@@ -1,5 +1,6 @@
 // Whether a halving is refused, and with which number, inside: `halving` calls it. A grid in 2D is tested as one of one layer.
 //
+//   13   the edition is neither 1 nor 2
 //   9    a side is 0 or too long, or there are too many cells
 //   10   there are too many levels
 //   5    weights or ids are not one for each cell, or splits are not 2^depth - 1
@@ -9,9 +10,12 @@
 // 0 is Accepted.
 use blocks::Grid;
 use rules::ANSWERED;
+use rules::EDITION_1;
+use rules::EDITION_2;
 use rules::Halving2;
 use rules::Halving3;
 use rules::REFUSED_DEPTH;
+use rules::REFUSED_EDITION;
 use rules::REFUSED_LENGTHS;
 use rules::REFUSED_SIDES;
 use rules::REFUSED_WEIGHT;
@@ -23,9 +27,19 @@ ghost use mathlib.Core.Path.{_≡_};
 ghost use Prim.Native.Nat.{_≤_, _-_, _^_};
 ghost use mathlib.Core.Bool.{_||_};
 ghost use mathlib.Core.List.{[], _∷_};
-ghost use Rattle.rules.specs.Refusals.{topDepth, firstOf, sideUnfit, sidesUnfit, lengthsOff, weightOver, gridTests};
+ghost use Rattle.rules.specs.Refusals.{topDepth, firstOf, editionUnknown, sideUnfit, sidesUnfit, lengthsOff, weightOver, gridTests};
 ghost use Rattle.rules.specs.Halving.{halving2, halving3, refusalOf};
 ghost use Rattle.blocks.specs.Blocks.{threeAxes, sidesOf};
+
+// Whether an edition is neither 1 nor 2.
+fn edition_unknown(edition: u32) -> bool
+    ensures { λ r. ⌜ r ≡ editionUnknown edition ⌝ }
+{
+    if edition == EDITION_1 {
+        return false;
+    }
+    edition != EDITION_2
+}
 
 // Whether a side is 0 or too long.
 fn side_unfit(side: usize) -> bool
@@ -81,8 +95,11 @@ fn weight_over(weights: &[u64]) -> bool
 
 // The number of refusal of a grid with `depth` levels, its weights, and so many ids and splits.
 fn refusal(g: Grid, depth: u32, weights: &[u64], ids: usize, splits: usize) -> u32
-    ensures { λ r. ⌜ r ≡ firstOf (gridTests (sidesOf threeAxes g) depth (now (weights .entry)) ids splits) ⌝ }
+    ensures { λ r. ⌜ r ≡ firstOf (gridTests (g .edition) (sidesOf threeAxes g) depth (now (weights .entry)) ids splits) ⌝ }
 {
+    if edition_unknown(g.edition) {
+        return REFUSED_EDITION;
+    }
     if sides_unfit(g) {
         return REFUSED_SIDES;
     }

@@ -1,19 +1,24 @@
 // Where a row of lines is cut, inside: `cuts` calls it.
 //
 //   lo, hi   of a block's weight: the least and the most that its left part should weigh, within one part in a hundred of the
-//            half. The rules work them out in f64; here they are the whole parts of exact fractions, which is the same
-//            (lo-is-floor, hi-is-floor)
+//            half. The rules work them out in f64; here they are exact fractions rounded down, and lo of edition 2 up, which
+//            is the same (lo-is-floor, lo-up-is-ceiling, hi-is-floor)
 //   median   how many lines lie before the cut, and what they weigh, for any lo and hi
 //
-// The cut is the rule's and lies before the last line (CutIs); lo and hi keep to their limits (lo-limits, hi-limits).
+// The cut is the rule's and lies before the last line (CutIs); lo and hi keep to their limits (edition-limits), and lo may
+// exceed hi.
+use rules::EDITION_2;
 ghost use mathlib.Core.Path.{_≡_};
 ghost use Prim.Native.Nat.{_<_, _≤_};
 ghost use Rattle.rules.specs.Refusals.{topSide};
-ghost use Rattle.rules.specs.Halving.{loOf, hiOf};
+ghost use Rattle.rules.specs.Halving.{hiOf, editionOf};
 ghost use Rattle.median.specs.Median.{CutIs, LinesLight, lineAt};
 
 // What is added to a number of 200ths before it is divided: nothing, so that its fraction is dropped.
 const ROUND_DOWN: u64 = 0;
+
+// And what takes any fraction to the next whole number.
+const ROUND_UP: u64 = 199;
 
 // How many lines lie before the cut, and what they weigh.
 pub struct WeightedMedian {
@@ -22,14 +27,17 @@ pub struct WeightedMedian {
 }
 
 // lo of a block of weight `total`: the least that its left part should weigh.
-pub fn min_part_weight(total: u64) -> u64
+pub fn min_part_weight(edition: u32, total: u64) -> u64
     requires { ⌜ total < 35184372088832 ⌝ }
-    ensures { λ r. ⌜ r ≡ loOf total ⌝ }
+    ensures { λ r. ⌜ r ≡ editionOf edition .lo total ⌝ }
 {
+    if edition == EDITION_2 {
+        return (99 * total + ROUND_UP) / 200;
+    }
     (99 * total + ROUND_DOWN) / 200
 }
 
-// hi of a block of weight `total`: the most that its left part should weigh.
+// hi of a block of weight `total`, in every edition: the most that its left part should weigh.
 pub fn max_part_weight(total: u64) -> u64
     requires { ⌜ total < 35184372088832 ⌝ }
     ensures { λ r. ⌜ r ≡ hiOf total ⌝ }

@@ -1,1 +1,2 @@
 pub mod NamedCases
+pub mod Once

@@ -5,7 +5,7 @@ use mathlib.Core.List.{List, [], _∷_}
 use lib.ListN.{getD, set, length, replicate}
 use lib.Dec.{leb, ltb}
 use lib.IntN.{pos}
-use lib.Ieee.{Float, binary64, ofBits, ofInt, div, mul, sub, add, toUnsigned}
+use lib.Ieee.{Float, binary64, ofBits, ofInt, div, mul, sub, add, lt, toUnsigned}
 use Rattle.rules.specs.Sums.{pick, total, list}
 use Rattle.rules.specs.Grid.{Block, cells, coords, on, whole, edge, side, before, after, weight, line}
 use Rattle.rules.specs.Refusals.{Test, firstOf, gridTests, sliceBy}
@@ -35,7 +35,7 @@ unfoldable pub half : ℕ → Float
 unfolding two ofInt div
 half t = div binary64 (ofInt binary64 (pos t)) two
 
--- (T / 2) * (1 - 0.01) with its fraction dropped, and (T / 2) * (1 + 0.01) likewise
+-- edition 1: (T / 2) * (1 - 0.01) with its fraction dropped, and (T / 2) * (1 + 0.01) likewise
 unfoldable pub loOf : ℕ → ℕ
 unfolding one hundredth half mul sub toUnsigned
 loOf t = toUnsigned 64 (mul binary64 (half t) (sub binary64 one hundredth))
@@ -46,6 +46,30 @@ hiOf t = toUnsigned 64 (mul binary64 (half t) (add binary64 one hundredth))
 
 abbrev pub edition1 : Edition
 edition1 = record { lo = loOf; hi = hiOf }
+
+-- an f64 rounded up to a whole number, a whole one staying: one more where what is left without its fraction lies below it
+unfoldable pub wholeUp : Float → ℕ
+unfolding pick toUnsigned ofInt lt
+wholeUp z = pick (lt (ofInt binary64 (pos (toUnsigned 64 z))) z) (toUnsigned 64 z + 1) (toUnsigned 64 z)
+
+-- edition 2: (T / 2) * (1 - 0.01) rounded up, and hi as it was
+unfoldable pub loUpOf : ℕ → ℕ
+unfolding one hundredth half mul sub wholeUp
+loUpOf t = wholeUp (mul binary64 (half t) (sub binary64 one hundredth))
+
+abbrev pub edition2 : Edition
+edition2 = record { lo = loUpOf; hi = hiOf }
+
+-- the edition of a number; a call with another number than 1 and 2 is refused, and cuts nothing
+unfoldable pub editionOf : ℕ → Edition
+editionOf zero = edition1
+editionOf (suc zero) = edition1
+editionOf (suc (suc zero)) = edition2
+editionOf (suc (suc (suc n))) = edition1
+
+-- the number of a call or a stored grid that has none
+abbrev pub defaultEdition : ℕ
+defaultEdition = 1
 
 -- THE CUT of m lines of weights a 0, .., a (m - 1); P j is the sum of the first j
 
@@ -123,21 +147,28 @@ idsOf sides first k s = list (idOf sides first k s) (cells sides)
 
 -- THE CALL
 
--- what describes a halving: the axis of the first cut is y
+-- what describes a halving: the number of its edition, the sides, the axis of the first cut, which is y, and the levels
 pub record Halving : Type 0 where
-  pub edition : Edition
+  pub edition : ℕ
   pub sides : List ℕ
   pub first : ℕ
   pub depth : ℕ
 
 abbrev pub halving2 : Halving2 → Halving
-halving2 h = record { edition = edition1; sides = h .width ∷ h .height ∷ []; first = 1; depth = h .depth }
+halving2 h = record { edition = h .edition; sides = h .width ∷ h .height ∷ []; first = 1; depth = h .depth }
 
 abbrev pub halving3 : Halving3 → Halving
-halving3 h = record { edition = edition1; sides = h .width ∷ h .height ∷ h .layers ∷ []; first = 1; depth = h .depth }
+halving3 h = record { edition = h .edition; sides = h .width ∷ h .height ∷ h .layers ∷ []; first = 1; depth = h .depth }
+
+-- without a number of an edition
+abbrev pub of2 : ℕ → ℕ → ℕ → Halving2
+of2 width height depth = record { edition = defaultEdition; width = width; height = height; depth = depth }
+
+abbrev pub of3 : ℕ → ℕ → ℕ → ℕ → Halving3
+of3 width height layers depth = record { edition = defaultEdition; width = width; height = height; layers = layers; depth = depth }
 
 abbrev pub splitsBy : Halving → List ℕ → List ℕ
-splitsBy h ws = splitsOf (h .edition) (h .sides) ws (h .first) (h .depth)
+splitsBy h ws = splitsOf (editionOf (h .edition)) (h .sides) ws (h .first) (h .depth)
 
 abbrev pub idsBy : Halving → List ℕ → List ℕ
 idsBy h ws = idsOf (h .sides) (h .first) (h .depth) (splitsBy h ws)
@@ -148,9 +179,9 @@ pub record Halved : Type 0 where
   pub splits : List ℕ
   pub ids : List ℕ
 
--- the tests of weights, splits and ids that are lent, and 01's number for them
+-- the tests of weights, splits and ids that are lent, and the number for them
 abbrev pub halvingTests : Halving → List ℕ → List ℕ → List ℕ → List Test
-halvingTests h ws splits ids = gridTests (h .sides) (h .depth) ws (length ids) (length splits)
+halvingTests h ws splits ids = gridTests (h .edition) (h .sides) (h .depth) ws (length ids) (length splits)
 
 abbrev pub refusalOf : Halving → List ℕ → List ℕ → List ℕ → ℕ
 refusalOf h ws splits ids = firstOf (halvingTests h ws splits ids)

@@ -109,6 +109,10 @@ depthOver k = ltb topDepth k
 abbrev pub weightOver : List ℕ → Bool
 weightOver ws = any (ltb topWeight) ws
 
+-- 13
+abbrev pub editionUnknown : ℕ → Bool
+editionUnknown n = not (eqb n 1) && not (eqb n 2)
+
 -- THE ORDER OF TESTS of each call, each written once, as a list
 
 -- a test and its number
@@ -150,10 +154,11 @@ unfoldable pub indexTests : ℕ → ℕ → ℕ → List ℕ → Bool → Bool �
 indexTests most order n lengths unfit thin =
     test (orderOver most order) 1 ∷ test (noPoints n) 4 ∷ test (lengthsOff n lengths) 5 ∷ test unfit 6 ∷ test thin 7 ∷ []
 
--- of a grid with these sides, k levels, its weights, and the lengths of ids and splits
-unfoldable pub gridTests : List ℕ → ℕ → List ℕ → ℕ → ℕ → List Test
-gridTests sides k ws ids splits =
-    test (sidesUnfit sides) 9
+-- of an edition's number and a grid with these sides, k levels, its weights, and the lengths of ids and splits
+unfoldable pub gridTests : ℕ → List ℕ → ℕ → List ℕ → ℕ → ℕ → List Test
+gridTests edition sides k ws ids splits =
+    test (editionUnknown edition) 13
+    ∷ test (sidesUnfit sides) 9
     ∷ test (depthOver k) 10
     ∷ test (gridLengthsOff sides k (length ws) ids splits) 5
     ∷ test (weightOver ws) 11 ∷ []

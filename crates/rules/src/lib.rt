@@ -1,4 +1,4 @@
-// Document 01 as definitions: the answers, the records, the limits and the numbers of refusal stand here,
+// Document 01 as definitions, with the editions of document 02: the answers, the records, the limits and the numbers of refusal stand here,
 // and what each of them means stands in specs/, a file for a chapter:
 //
 //   Refusals  the test of each number, the order of tests of each call, the number and values of each answer
@@ -6,10 +6,13 @@
 //   Axis      making an axis, the cell of a value, low and high of points
 //   Knots     the indices of all points
 //   Grid      cells, blocks, lines and their weights
-//   Halving   lo and hi, the cut, the tree of splits, the ids
+//   Halving   lo and hi of both editions, the cut, the tree of splits, the ids
 //   Demands   what is to be shown of all this
 //
-// There is no function here, and no proof but that of the twelve named cases (proofs/NamedCases.antt).
+// There is no function here but the two that make a halving's record without an edition, and no proof but that of the named
+// cases (proofs/NamedCases.antt).
+ghost use mathlib.Core.Path.{_≡_};
+ghost use Rattle.rules.specs.Halving.{of2, of3};
 
 // The order of a call that names none.
 pub const DEFAULT_ORDER: u32 = 12;
@@ -40,6 +43,14 @@ pub const TOP_WEIGHT: u64 = 16777215;
 
 // The split of a node that is not cut.
 pub const UNCUT: u32 = 4294967295;
+
+// The editions of the halving: 1 drops the fraction of lo, 2 rounds it up.
+pub const EDITION_1: u32 = 1;
+
+pub const EDITION_2: u32 = 2;
+
+// The edition of a halving that names none.
+pub const DEFAULT_EDITION: u32 = 1;
 
 // The numbers of refusal. 0: answered.
 pub const ANSWERED: u32 = 0;
@@ -76,6 +87,9 @@ pub const REFUSED_DEPTH: u32 = 10;
 
 // A weight is too heavy.
 pub const REFUSED_WEIGHT: u32 = 11;
+
+// The edition is neither 1 nor 2.
+pub const REFUSED_EDITION: u32 = 13;
 
 // An encoder's answer.
 pub enum Coded {
@@ -130,6 +144,7 @@ pub struct Extent {
 
 // What describes a halving in 2D.
 pub struct Halving2 {
+    pub edition: u32,
     pub width: u32,
     pub height: u32,
     pub depth: u32,
@@ -137,8 +152,38 @@ pub struct Halving2 {
 
 // What describes a halving in 3D.
 pub struct Halving3 {
+    pub edition: u32,
     pub width: u32,
     pub height: u32,
     pub layers: u32,
     pub depth: u32,
+}
+
+impl Halving2 {
+    // A halving that names no edition.
+    pub fn of(width: u32, height: u32, depth: u32) -> Self
+        ensures { λ r. ⌜ r ≡ of2 width height depth ⌝ }
+    {
+        Halving2 {
+            edition: DEFAULT_EDITION,
+            width,
+            height,
+            depth,
+        }
+    }
+}
+
+impl Halving3 {
+    // A halving in 3D that names no edition.
+    pub fn of(width: u32, height: u32, layers: u32, depth: u32) -> Self
+        ensures { λ r. ⌜ r ≡ of3 width height layers depth ⌝ }
+    {
+        Halving3 {
+            edition: DEFAULT_EDITION,
+            width,
+            height,
+            layers,
+            depth,
+        }
+    }
 }

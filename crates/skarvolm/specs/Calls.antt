@@ -3,7 +3,7 @@ use Prim.Native.Nat.{ℕ}
 use mathlib.Core.List.{List}
 use lib.Ieee.{Float}
 use Rattle.rules.specs.Knots.{Filed}
-use Rattle.rules.specs.Halving.{halving2, halving3, Halved, halve}
+use Rattle.rules.specs.Halving.{halving2, halving3, of2, of3, Halved, halve}
 use Rattle.rules.specs.declared.Extent.{Extent}
 use Rattle.knots_given.specs.Given.{indexIn2, indexIn3}
 
@@ -19,7 +19,14 @@ in3 xlow xhigh ylow yhigh zlow zhigh xs ys zs = indexIn3 xs ys zs (between xlow 
 
 -- width, height, depth, then what weights, splits and ids hold
 abbrev pub rcb2 : ℕ → ℕ → ℕ → List ℕ → List ℕ → List ℕ → Halved
-rcb2 width height depth = halve (halving2 (record { width = width; height = height; depth = depth }))
+rcb2 width height depth = halve (halving2 (of2 width height depth))
 
 abbrev pub rcb3 : ℕ → ℕ → ℕ → ℕ → List ℕ → List ℕ → List ℕ → Halved
-rcb3 width height layers depth = halve (halving3 (record { width = width; height = height; layers = layers; depth = depth }))
+rcb3 width height layers depth = halve (halving3 (of3 width height layers depth))
+
+-- the same behind the number of an edition
+abbrev pub halve2 : ℕ → ℕ → ℕ → ℕ → List ℕ → List ℕ → List ℕ → Halved
+halve2 edition width height depth = halve (halving2 (record { edition = edition; width = width; height = height; depth = depth }))
+
+abbrev pub halve3 : ℕ → ℕ → ℕ → ℕ → ℕ → List ℕ → List ℕ → List ℕ → Halved
+halve3 edition width height layers depth = halve (halving3 (record { edition = edition; width = width; height = height; layers = layers; depth = depth }))

@@ -9,7 +9,7 @@ ghost use Rattle.rules.specs.Refusals.{readCoded, readCell2, readCell3, readCel
 ghost use Rattle.rules.specs.Curve.{depositOf, encode2, encode3, decode2, decode3};
 ghost use Rattle.rules.specs.Knots.{indexAll2, indexAll3};
 ghost use Rattle.axis_out.specs.Cells.{cellBetween};
-ghost use Rattle.skarvolm.specs.Calls.{in2, in3, rcb2, rcb3};
+ghost use Rattle.skarvolm.specs.Calls.{in2, in3, rcb2, rcb3, halve2, halve3};
 use rules::Extent;
 use rules::Halving2;
 use rules::Halving3;
@@ -159,7 +159,7 @@ pub extern "C" fn skarvolm_index_3d_in(
     knots::index_3d_in(xs, ys, zs, x, y, z, order, indices)
 }
 
-// The splits and ids of a halved grid.
+// The splits and ids of a halved grid, by edition 1.
 #[no_mangle]
 pub extern "C" fn skarvolm_rcb_2d(
     width: u32,
@@ -173,15 +173,11 @@ pub extern "C" fn skarvolm_rcb_2d(
     ensures splits { λ _. ⌜ now (splits .exit) ≡ rcb2 width height depth (now (weights .entry)) (now (splits .entry)) (now (ids .entry)) .splits ⌝ }
     ensures ids { λ _. ⌜ now (ids .exit) ≡ rcb2 width height depth (now (weights .entry)) (now (splits .entry)) (now (ids .entry)) .ids ⌝ }
 {
-    let halving = Halving2 {
-        width,
-        height,
-        depth,
-    };
+    let halving = Halving2::of(width, height, depth);
     halving::rcb_2d(halving, weights, splits, ids)
 }
 
-// The splits and ids of a halved grid in 3D.
+// The splits and ids of a halved grid in 3D, by edition 1.
 #[no_mangle]
 pub extern "C" fn skarvolm_rcb_3d(
     width: u32,
@@ -196,7 +192,52 @@ pub extern "C" fn skarvolm_rcb_3d(
     ensures splits { λ _. ⌜ now (splits .exit) ≡ rcb3 width height layers depth (now (weights .entry)) (now (splits .entry)) (now (ids .entry)) .splits ⌝ }
     ensures ids { λ _. ⌜ now (ids .exit) ≡ rcb3 width height layers depth (now (weights .entry)) (now (splits .entry)) (now (ids .entry)) .ids ⌝ }
 {
+    let halving = Halving3::of(width, height, layers, depth);
+    halving::rcb_3d(halving, weights, splits, ids)
+}
+
+// The splits and ids of a halved grid, by the edition of a number.
+#[no_mangle]
+pub extern "C" fn skarvolm_halve_2d(
+    edition: u32,
+    width: u32,
+    height: u32,
+    depth: u32,
+    weights: &[u64],
+    splits: &mut [u32],
+    ids: &mut [u32],
+) -> u32
+    ensures number { λ r. ⌜ r ≡ halve2 edition width height depth (now (weights .entry)) (now (splits .entry)) (now (ids .entry)) .number ⌝ }
+    ensures splits { λ _. ⌜ now (splits .exit) ≡ halve2 edition width height depth (now (weights .entry)) (now (splits .entry)) (now (ids .entry)) .splits ⌝ }
+    ensures ids { λ _. ⌜ now (ids .exit) ≡ halve2 edition width height depth (now (weights .entry)) (now (splits .entry)) (now (ids .entry)) .ids ⌝ }
+{
+    let halving = Halving2 {
+        edition,
+        width,
+        height,
+        depth,
+    };
+    halving::rcb_2d(halving, weights, splits, ids)
+}
+
+// The splits and ids of a halved grid in 3D, by the edition of a number.
+#[no_mangle]
+pub extern "C" fn skarvolm_halve_3d(
+    edition: u32,
+    width: u32,
+    height: u32,
+    layers: u32,
+    depth: u32,
+    weights: &[u64],
+    splits: &mut [u32],
+    ids: &mut [u32],
+) -> u32
+    ensures number { λ r. ⌜ r ≡ halve3 edition width height layers depth (now (weights .entry)) (now (splits .entry)) (now (ids .entry)) .number ⌝ }
+    ensures splits { λ _. ⌜ now (splits .exit) ≡ halve3 edition width height layers depth (now (weights .entry)) (now (splits .entry)) (now (ids .entry)) .splits ⌝ }
+    ensures ids { λ _. ⌜ now (ids .exit) ≡ halve3 edition width height layers depth (now (weights .entry)) (now (splits .entry)) (now (ids .entry)) .ids ⌝ }
+{
     let halving = Halving3 {
+        edition,
         width,
         height,
         layers,

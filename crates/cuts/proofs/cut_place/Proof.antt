@@ -1,6 +1,7 @@
 -- `cut_place` meets its contract: the lines that it sums are the lines of the block, and the median of their sums is their cut.
 use mathlib.Core.Path.{_≡_, _∙_}
 use borrow.Author.Needs.{needs}
+use Rattle.halving_laws.proofs.Editions.{hi-stays}
 use Rattle.blocks.specs.Blocks.{across, side}
 use Rattle.cuts.specs.Cuts.{filled}
 use Rattle.cuts.proofs.Solids.{corner-fits, layer-fits, side-fits, lines-fit, line-sums-fill, lines-light, cut-of-sums}
@@ -57,7 +58,8 @@ returns c =
     let sums = hi .before .before in
     let side = sums .before .before .before .before .before .before in
     let a = side .before .before .args in
-    (cut-of-sums (a .g) (a .weights .now) (across (a .axis)) (a .b) (a .sums .now) _ _ (rw (fills sums, side .side .ensures, hi .before .min-part-weight .ensures, hi .max-part-weight .ensures) at (c .weighted-median .ensures)), fills sums)
+    let cut = rw (fills sums, side .side .ensures, hi .before .min-part-weight .ensures, hi .max-part-weight .ensures) at (c .weighted-median .ensures) in
+    (rw (hi-stays (a .g .edition)) (cut-of-sums (a .g) (a .weights .now) (across (a .axis)) (a .b) (a .sums .now) _ _ cut), fills sums)
 
 pub cut-place-spec : {M : Type 1} → statement M
 cut-place-spec =

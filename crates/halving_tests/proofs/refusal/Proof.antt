@@ -8,28 +8,37 @@ use lib.Dec.{lit≤}
 use lib.ListN.{length}
 use borrow.Author.Needs.{needs}
 use borrow.Author.Tests.{lt-ltb, le-ltb}
-use Rattle.rules.specs.Refusals.{topSide, topCells, topDepth, sidesUnfit, gridLengthsOff, gridTests}
+use Rattle.rules.specs.Refusals.{topSide, topCells, topDepth, editionUnknown, sidesUnfit, gridLengthsOff, gridTests}
 use Rattle.halving_laws.proofs.Accepted.{sides-fit}
 use Rattle.blocks.specs.Blocks.{threeAxes, sidesOf}
 use Rattle.halving_tests.proofs.ThreeSides.{cells-are}
 use Rattle.halving_tests.proofs.refusal.Statement.{statement}
 use Rattle.halving_tests.proofs.refusal.Tie as tie
 
--- where the call began, from where the depth was tested
+-- where the call began, from where the sides were tested
 abbrev start : tie.Else2 → tie.Start
-start c = c .before .before .before .before
+start c = c .before .before .before .before .before
+
+-- the edition is known, and the sides fit
+known : (c : tie.Else2) → editionUnknown (start c .args .g .edition) ≡ false
+known c = let tested = c .before .before in sym (tested .before .edition-unknown .ensures) ∙ tested .if1 .left
+
+fit : (c : tie.Else2) → sidesUnfit (sidesOf threeAxes (start c .args .g)) ≡ false
+fit c = sym (c .before .sides-unfit .ensures) ∙ c .if2 .left
 
 returns : tie.Need-returns
 unfolding gridTests
-returns c = rw (sym (c .before .sides-unfit .ensures) ∙ c .if1 .taken)
+returns c = rw (sym (c .before .edition-unknown .ensures) ∙ c .if1 .taken)
 
 returns-2 : tie.Need-returns-2
 unfolding gridTests
-returns-2 c = rw (sym (c .before .before .sides-unfit .ensures) ∙ c .before .if1 .left, lt-ltb topDepth _ (c .if2 .taken))
+returns-2 c =
+    let tested = c .before .before in
+    rw (sym (tested .before .edition-unknown .ensures) ∙ tested .if1 .left, sym (c .before .sides-unfit .ensures) ∙ c .if2 .taken)
 
--- the sides fit
-fit : (c : tie.Else2) → sidesUnfit (sidesOf threeAxes (start c .args .g)) ≡ false
-fit c = sym (c .before .before .sides-unfit .ensures) ∙ c .before .if1 .left
+returns-3 : tie.Need-returns-3
+unfolding gridTests
+returns-3 c = rw (known (c .before), fit (c .before), lt-ltb topDepth _ (c .if3 .taken))
 
 small : (c : tie.Else2) → let g = start c .args .g in (g .height * g .layers ≤ topSide * topSide) × (g .width * (g .height * g .layers) ≤ topCells)
 small c =
@@ -38,39 +47,39 @@ small c =
     (mul-le-mul (f .0 1 (lit≤ tt) .1) (f .0 2 (lit≤ tt) .1), rw (cells-are (g .width) (g .height) (g .layers)) at (f .1))
 
 mul-cells : tie.Need-mul-cells
-mul-cells c = omega (arith, small (c .before))
+mul-cells c = omega (arith, small (c .before .before))
 
 mul-cells-2 : tie.Need-mul-cells-2
-mul-cells-2 c = omega (arith, small (c .before .before))
+mul-cells-2 c = omega (arith, small (c .before .before .before))
 
 -- the test of the lengths is the definition's
 off : (c : tie.After-lengths-off)
-    → let a = start (c .before .before .before) .args in
+    → let a = start (c .before .before .before .before) .args in
     c .lengths-off .result ≡ gridLengthsOff (sidesOf threeAxes (a .g)) (a .depth) (length (a .weights .now)) (a .ids) (a .splits)
 off c =
-    let g = start (c .before .before .before) .args .g in
+    let g = start (c .before .before .before .before) .args .g in
     rw (cells-are (g .width) (g .height) (g .layers)) (c .lengths-off .ensures)
-
-returns-3 : tie.Need-returns-3
-unfolding gridTests
-returns-3 c =
-    let lengths = c .before in
-    let depth = lengths .before .before .before in
-    rw (fit depth, le-ltb topDepth _ (depth .if2 .left), sym (off lengths) ∙ c .if3 .taken)
 
 returns-4 : tie.Need-returns-4
 unfolding gridTests
 returns-4 c =
-    let long = c .before .before in
-    let depth = long .before .before .before .before in
-    rw (fit depth, le-ltb topDepth _ (depth .if2 .left), sym (off (long .before)) ∙ long .if3 .left, sym (c .before .weight-over .ensures) ∙ c .if4 .taken)
+    let lengths = c .before in
+    let depth = lengths .before .before .before in
+    rw (known (depth .before), fit (depth .before), le-ltb topDepth _ (depth .if3 .left), sym (off lengths) ∙ c .if4 .taken)
 
 returns-5 : tie.Need-returns-5
 unfolding gridTests
 returns-5 c =
     let long = c .before .before in
     let depth = long .before .before .before .before in
-    rw (fit depth, le-ltb topDepth _ (depth .if2 .left), sym (off (long .before)) ∙ long .if3 .left, sym (c .before .weight-over .ensures) ∙ c .if4 .left)
+    rw (known (depth .before), fit (depth .before), le-ltb topDepth _ (depth .if3 .left), sym (off (long .before)) ∙ long .if4 .left, sym (c .before .weight-over .ensures) ∙ c .if5 .taken)
+
+returns-6 : tie.Need-returns-6
+unfolding gridTests
+returns-6 c =
+    let long = c .before .before in
+    let depth = long .before .before .before .before in
+    rw (known (depth .before), fit (depth .before), le-ltb topDepth _ (depth .if3 .left), sym (off (long .before)) ∙ long .if4 .left, sym (c .before .weight-over .ensures) ∙ c .if5 .left)
 
 pub refusal-spec : {M : Type 1} → statement M
 refusal-spec =
@@ -78,11 +87,13 @@ refusal-spec =
     (tie.spec
     (λ c κs. search needs)
     returns
+    (λ c κs. search needs)
     returns-2
+    returns-3
     mul-cells
     mul-cells-2
     (λ c κs. search needs)
-    returns-3
-    (λ c κs. search needs)
     returns-4
-    returns-5)
+    (λ c κs. search needs)
+    returns-5
+    returns-6)
