@@ -14,6 +14,20 @@ use fields::separator_of;
 use rules::Halving2;
 use rules::Halving3;
 
+// What a command asks of a halving.
+pub struct Wish {
+    pub edition: u32,
+    pub depth: u32,
+}
+
+// The edition that word 5 names, the default where there is none.
+fn edition_of(line: &[u8]) -> u32 {
+    if word(line, 5).len() == 0 {
+        return rules::DEFAULT_EDITION;
+    }
+    number_of(word(line, 5))
+}
+
 // How many cuts a depth has.
 fn nodes_of(depth: u32) -> usize {
     if 12 < depth {
@@ -39,40 +53,40 @@ fn first(weights: &[u64], n: usize) -> &[u64] {
 }
 
 // Halves a grid of one layer; the number of refusal.
-fn halve_2d(shape: Shape, depth: u32, weights: &[u64], splits: &mut [u32], ids: &mut [u32]) -> u32 {
+fn halve_2d(shape: Shape, wish: Wish, weights: &[u64], splits: &mut [u32], ids: &mut [u32]) -> u32 {
     let halving = Halving2 {
-        edition: 1,
+        edition: wish.edition,
         width: side(shape.width),
         height: side(shape.height),
-        depth,
+        depth: wish.depth,
     };
     halving::rcb_2d(halving, weights, splits, ids)
 }
 
 // Halves a grid of several layers; the number of refusal.
-fn halve_3d(shape: Shape, depth: u32, weights: &[u64], splits: &mut [u32], ids: &mut [u32]) -> u32 {
+fn halve_3d(shape: Shape, wish: Wish, weights: &[u64], splits: &mut [u32], ids: &mut [u32]) -> u32 {
     let halving = Halving3 {
-        edition: 1,
+        edition: wish.edition,
         width: side(shape.width),
         height: side(shape.height),
         layers: side(shape.layers),
-        depth,
+        depth: wish.depth,
     };
     halving::rcb_3d(halving, weights, splits, ids)
 }
 
 // Halves a grid in 2D where it has one layer and else in 3D; the number of refusal.
-fn halve(shape: Shape, depth: u32, weights: &[u64], splits: &mut [u32], ids: &mut [u32]) -> u32 {
+fn halve(shape: Shape, wish: Wish, weights: &[u64], splits: &mut [u32], ids: &mut [u32]) -> u32 {
     if shape.layers == 1 {
-        return halve_2d(shape, depth, weights, splits, ids);
+        return halve_2d(shape, wish, weights, splits, ids);
     }
-    halve_3d(shape, depth, weights, splits, ids)
+    halve_3d(shape, wish, weights, splits, ids)
 }
 
 // Halves a grid with the first of the rooms' places, as many as it has cells and nodes; the number of refusal.
-fn halve_in(shape: Shape, depth: u32, weights: &[u64], splits: &mut [u32], ids: &mut [u32]) -> u32 {
+fn halve_in(shape: Shape, wish: Wish, weights: &[u64], splits: &mut [u32], ids: &mut [u32]) -> u32 {
     let cells = shape.cells;
-    let nodes = nodes_of(depth);
+    let nodes = nodes_of(wish.depth);
     if splits.len() < nodes {
         return rules::REFUSED_LENGTHS;
     }
@@ -81,7 +95,7 @@ fn halve_in(shape: Shape, depth: u32, weights: &[u64], splits: &mut [u32], ids: 
     }
     halve(
         shape,
-        depth,
+        wish,
         first(weights, cells),
         &mut splits[..nodes],
         &mut ids[..cells],
@@ -122,14 +136,14 @@ fn refused(path: &[u8], shape: Shape, number: u32) -> u8 {
 }
 
 // Halves a grid and shows it, or says why it is refused.
-fn halved(line: &[u8], shape: Shape, depth: u32, weights: &[u64; 65536]) -> u8 {
+fn halved(line: &[u8], shape: Shape, wish: Wish, weights: &[u64; 65536]) -> u8 {
     let mut splits = [0u32; 4095];
     let mut ids = [0u32; 65536];
-    let number = halve_in(shape, depth, weights, &mut splits, &mut ids);
+    let number = halve_in(shape, wish, weights, &mut splits, &mut ids);
     if number != rules::ANSWERED {
         return refused(word(line, 2), shape, number);
     }
-    show(line, shape, depth, weights, &splits, &ids)
+    show(line, shape, wish.depth, weights, &splits, &ids)
 }
 
 // Reads a text's grid, halves it and shows it, or says what is wrong.
@@ -142,10 +156,9 @@ pub(crate) fn of_text(line: &[u8], text: &[u8]) -> u8 {
         say_all(word(line, 2), text, separator, &kept);
         return FAILED;
     }
-    halved(
-        line,
-        shape_of(grid, separator),
-        number_of(word(line, 3)),
-        &weights,
-    )
+    let wish = Wish {
+        edition: edition_of(line),
+        depth: number_of(word(line, 3)),
+    };
+    halved(line, shape_of(grid, separator), wish, &weights)
 }
