@@ -1,6 +1,6 @@
 // The words of a line.
-use console::words::same;
 use text::Token;
+use words::same;
 ghost use Prim.Native.Nat.{_≤_, _<_};
 ghost use lib.ListN.{length};
 

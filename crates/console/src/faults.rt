@@ -6,8 +6,8 @@
 use crate::lines::fields_on;
 use crate::lines::part;
 use crate::meanings::meaning;
-use crate::words::word;
 use libc::STDERR_FILENO;
+use words::word;
 
 // How many faults are kept and said.
 const MOST: usize = 20;

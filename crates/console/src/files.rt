@@ -1,7 +1,7 @@
 // A file, read whole.
-use crate::words::same;
 use libc::STDERR_FILENO;
 use libc::STDIN_FILENO;
+use words::same;
 ghost use mathlib.Core.Path.{_≡_};
 ghost use lib.ListN.{take};
 

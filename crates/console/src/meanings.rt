@@ -1,7 +1,7 @@
 // What the numbers of refusal mean, in words: one table, from which everything that speaks of a number takes its text.
 //
 // The line of a number is the number. A number whose line is empty, or that has none, is said to be none.
-use crate::words::word;
+use words::word;
 
 // Writes a line of the table, behind its number where that is wanted, and says whether there is one.
 fn write_line(fd: i32, number: u32, numbered: bool, texts: &[u8]) -> bool {

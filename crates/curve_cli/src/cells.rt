@@ -2,9 +2,9 @@
 use crate::list::Setting;
 use crate::noted;
 use crate::ranges::put_range;
-use console::status::of_output;
 use rules::Cell2;
 use rules::Cell3;
+use words::status::of_output;
 
 // Puts a coordinate of a cell.
 fn put(buffer: &mut [u8; 4096], at: usize, n: u64) -> usize {

@@ -9,12 +9,12 @@ use console::lines::field_of;
 use console::lines::first_line;
 use console::lines::line_end;
 use console::lines::part;
-use console::status::FAILED;
-use console::words::number_of;
-use console::words::same;
-use console::words::word;
 use fields::separator_of;
 use whole_files::row::Limit;
+use words::number_of;
+use words::same;
+use words::status::FAILED;
+use words::word;
 
 // The order of a list, and whether it is in 3D.
 pub struct Setting {

@@ -8,10 +8,10 @@ mod noted;
 mod picture;
 mod ranges;
 
-use console::status::DONE;
-use console::status::FAILED;
-use console::status::misused;
-use console::words::place;
+use words::place;
+use words::status::DONE;
+use words::status::FAILED;
+use words::status::misused;
 
 // Writes the numbers of refusal.
 fn refusals() -> u8 {
@@ -35,12 +35,12 @@ fn carry_out(line: &[u8], bytes: &mut [u8; 4194304]) -> u8 {
 
 fn carry_out_in(line: &[u8; 4096], bytes: &mut [u8; 4194304]) {
     let status = carry_out(line, bytes);
-    console::status::report(line, status);
+    words::status::report(line, status);
 }
 
 fn main() {
     let mut line = [0u8; 4096];
-    console::words::arguments(&mut line);
+    words::arguments(&mut line);
     let mut bytes = [0u8; 4194304];
     carry_out_in(&line, &mut bytes);
 }

@@ -1,9 +1,9 @@
 // What a list says of itself in its first line, as `index` writes it: `# skarvolm 3d order 12 box 24 105 0.45 1000 2.8 22`.
 use console::lines::line_end;
 use console::lines::part;
-use console::words::is;
-use console::words::parted;
-use knot_files::ends::of_words;
+use knot_rows::ends::of_words;
+use words::is;
+use words::parted;
 
 // The places of the words that say the dimension and the order, and of the first end of the box.
 pub(crate) const DIMENSION: usize = 2;

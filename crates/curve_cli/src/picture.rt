@@ -1,10 +1,10 @@
 // A picture of the curve through its cells, as SVG, its hue going round once from the first index to the last.
 use console::faults;
-use console::status::FAILED;
-use console::status::of_output;
-use console::words::number_of;
-use console::words::word;
 use rules::Cell2;
+use words::number_of;
+use words::status::FAILED;
+use words::status::of_output;
+use words::word;
 
 // Puts a cell's centre.
 fn put_centre(buffer: &mut [u8; 4096], at: usize, index: u64, order: u32) -> usize {

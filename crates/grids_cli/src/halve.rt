@@ -6,13 +6,13 @@ use crate::shape::Shape;
 use crate::shape::shape_of;
 use console::faults;
 use console::faults::say_all;
-use console::status::FAILED;
-use console::words::number_of;
-use console::words::place;
-use console::words::word;
 use fields::separator_of;
 use rules::Halving2;
 use rules::Halving3;
+use words::number_of;
+use words::place;
+use words::status::FAILED;
+use words::word;
 
 // What a command asks of a halving.
 pub struct Wish {

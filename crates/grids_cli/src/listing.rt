@@ -1,6 +1,6 @@
 // The parts of a halved grid in its shape, and the cuts of its nodes, a line each.
 use crate::shape::Shape;
-use console::status::of_output;
+use words::status::of_output;
 
 // What stands behind the id of cell i: the separator, a line's end, or a line's end and a blank line.
 fn behind(buffer: &mut [u8; 4096], at: usize, i: usize, shape: Shape) -> usize {

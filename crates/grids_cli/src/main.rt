@@ -9,8 +9,8 @@ mod shape;
 
 use console::files;
 use console::files::Size;
-use console::status::FAILED;
-use console::words::word;
+use words::status::FAILED;
+use words::word;
 
 // Carries out a command on a file.
 fn carry_out(line: &[u8], bytes: &mut [u8; 4194304]) -> u8 {
@@ -23,12 +23,12 @@ fn carry_out(line: &[u8], bytes: &mut [u8; 4194304]) -> u8 {
 
 fn carry_out_in(line: &[u8; 4096], bytes: &mut [u8; 4194304]) {
     let status = carry_out(line, bytes);
-    console::status::report(line, status);
+    words::status::report(line, status);
 }
 
 fn main() {
     let mut line = [0u8; 4096];
-    console::words::arguments(&mut line);
+    words::arguments(&mut line);
     let mut bytes = [0u8; 4194304];
     carry_out_in(&line, &mut bytes);
 }

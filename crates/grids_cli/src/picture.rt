@@ -1,7 +1,7 @@
 // A picture of a halved grid, as SVG. Each cell is a square in its part's colour, darker where its weight is more, with its
 // place, weight and part as a title; the cuts are lines, thicker the earlier they were made. Layers stand beside each other.
 use crate::shape::Shape;
-use console::status::of_output;
+use words::status::of_output;
 ghost use Prim.Native.Nat.{_≤_};
 
 // The heaviest of the weights.

@@ -1,61 +1,12 @@
 // A first line without numbers.
-use crate::columns::Columns;
-use crate::columns::axis_of;
 use console::lines::field_of;
 use console::lines::fields_on;
 use console::lines::part;
+use knot_columns::columns::Columns;
+use knot_columns::columns::axis_of;
+use knot_columns::spelled::not_finite;
+use knot_columns::spelled::unsigned;
 use wholes::is_digit;
-
-// A letter as its small one.
-fn small(b: u8) -> u8 {
-    if b < b'A' {
-        return b;
-    }
-    if b'Z' < b {
-        return b;
-    }
-    b + 32
-}
-
-// Whether a word is this one, which is written small.
-fn spells(word: &[u8], what: &[u8]) -> bool {
-    if word.len() != what.len() {
-        return false;
-    }
-    for i in 0..word.len() {
-        if i < what.len() {
-            if small(word[i]) != what[i] {
-                return false;
-            }
-        }
-    }
-    true
-}
-
-// A word without its sign.
-fn unsigned(word: &[u8]) -> &[u8] {
-    if word.len() == 0 {
-        return word;
-    }
-    match word[0] {
-        b'+' | b'-' => &word[1..],
-        _ => word,
-    }
-}
-
-// Whether a word spells what is no finite number, with a sign or none.
-pub fn not_finite(word: &[u8]) -> bool
-    ensures { λ _. ⊤ₛ }
-{
-    let spelled = unsigned(word);
-    if spells(spelled, b"nan") {
-        return true;
-    }
-    if spells(spelled, b"inf") {
-        return true;
-    }
-    spells(spelled, b"infinity")
-}
 
 // Whether a word starts with a digit, or with a point and a digit.
 fn starts(word: &[u8]) -> bool {

@@ -1,9 +1,4 @@
 // How a text is laid out: what parts its fields, its header if it has one, and the columns of the coordinates.
-use crate::columns::Columns;
-use crate::columns::NO_COLUMN;
-use crate::columns::column_of;
-use crate::columns::first;
-use crate::columns::place_of;
 use crate::header::is_header;
 use console::faults::COLUMNS;
 use console::faults::NOTHING;
@@ -11,7 +6,12 @@ use console::faults::note;
 use console::lines::fields_on;
 use console::lines::first_line;
 use console::lines::line_end;
-use console::words::word;
+use knot_columns::columns::Columns;
+use knot_columns::columns::NO_COLUMN;
+use knot_columns::columns::column_of;
+use knot_columns::columns::first;
+use knot_columns::columns::place_of;
+use words::word;
 
 // The separator, where the first line that has a field begins, and where the first line of numbers does: behind the header, or there.
 pub struct Layout {

@@ -1,8 +1,5 @@
-// Knots out of a file as people have them: which columns hold the coordinates, a header, lines of decimals.
+// A file of knots as people have them: a header or none, and the columns that hold the coordinates.
 //
 // Every function is proved safe, and to end; what is read the gate compares.
-pub mod columns;
-pub mod ends;
 pub mod header;
 pub mod layout;
-pub mod rows;

@@ -1,15 +1,15 @@
 // The indices of knots in the box around them, or in one that is given.
-use crate::asked;
-use crate::lines;
-use crate::notes;
 use crate::refusals;
 use console::faults;
-use console::status::MISUSED;
-use console::words::word;
-use knot_files::columns::Columns;
-use knot_files::ends;
+use knot_columns::columns::Columns;
 use knot_files::layout::Layout;
+use knot_lists::asked;
+use knot_lists::lines;
+use knot_lists::notes;
+use knot_rows::ends;
 use rules::Extent;
+use words::status::MISUSED;
+use words::word;
 
 // The values of a coordinate, of n points.
 fn of_axis(values: &[f64], axis: usize, n: usize) -> &[f64] {

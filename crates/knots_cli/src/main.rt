@@ -1,19 +1,16 @@
 // The command line's part for knots: files them by Hilbert index, and says the box around them.
 //
-// The script skarvolm knows the commands and hands their words on, each in its place (`asked`). A file is read whole, and what is wrong
-// with it is said, with file, line and column, before anything is printed. What is right goes out through a buffer. A buffer for a
-// file is made here once, and lent as an array.
-mod asked;
+// The script skarvolm knows the commands and hands their words on, each in its place (`asked` of `knot_lists`). A file is read whole,
+// and what is wrong with it is said, with file, line and column, before anything is printed. What is right goes out through a buffer.
+// A buffer for a file is made here once, and lent as an array.
 mod index;
-mod lines;
-mod notes;
-mod places;
 mod refusals;
 mod table;
 
 use console::files;
 use console::files::Size;
-use console::status::FAILED;
+use knot_lists::asked;
+use words::status::FAILED;
 
 // Carries out a command on a file.
 fn carry_out(line: &[u8], bytes: &mut [u8; 4194304]) -> u8 {
@@ -26,12 +23,12 @@ fn carry_out(line: &[u8], bytes: &mut [u8; 4194304]) -> u8 {
 
 fn carry_out_in(line: &[u8; 4096], bytes: &mut [u8; 4194304]) {
     let status = carry_out(line, bytes);
-    console::status::report(line, status);
+    words::status::report(line, status);
 }
 
 fn main() {
     let mut line = [0u8; 4096];
-    console::words::arguments(&mut line);
+    words::arguments(&mut line);
     let mut bytes = [0u8; 4194304];
     carry_out_in(&line, &mut bytes);
 }

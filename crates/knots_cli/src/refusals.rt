@@ -1,18 +1,18 @@
 // Why knots are refused, with what can be said of the file: the column of a thin axis, the lines outside a box.
-use crate::asked;
-use crate::notes::field;
 use console::faults;
 use console::faults::REFUSED;
 use console::faults::full;
 use console::faults::note;
 use console::faults::say_all;
 use console::lines::part;
-use console::status::FAILED;
-use console::words::word;
-use knot_files::columns::Columns;
-use knot_files::columns::column_of;
-use knot_files::ends::points_at;
-use knot_files::ends::value_of;
+use knot_columns::columns::Columns;
+use knot_columns::columns::column_of;
+use knot_lists::asked;
+use knot_lists::notes::field;
+use knot_rows::ends::points_at;
+use knot_rows::ends::value_of;
+use words::status::FAILED;
+use words::word;
 
 // Whether a value lies outside low to high.
 fn outside(value: f64, low: f64, high: f64) -> bool {

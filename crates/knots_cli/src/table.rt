@@ -1,20 +1,20 @@
 // The knots of a text, read and handed on.
-use crate::asked;
 use crate::index;
 use console::faults;
 use console::faults::say_all;
 use console::lines::first_line;
-use console::status::FAILED;
-use console::words::word;
 use fields::separator_of;
-use knot_files::columns::Columns;
+use knot_columns::columns::Columns;
 use knot_files::layout;
 use knot_files::layout::Layout;
 use knot_files::layout::check;
 use knot_files::layout::counted;
 use knot_files::layout::layout_of;
 use knot_files::layout::unknown;
-use knot_files::rows;
+use knot_lists::asked;
+use knot_rows::rows;
+use words::status::FAILED;
+use words::word;
 
 // Says that a word names no column.
 fn no_column(line: &[u8], axis: usize) -> u8 {

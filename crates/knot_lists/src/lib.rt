@@ -1,0 +1,7 @@
+// What a list of indices looks like: what is asked of it, the line that says what it is, and each knot's line behind its index.
+//
+// Every function is proved safe, and to end; what is written no contract can say, and the gate compares it.
+pub mod asked;
+pub mod lines;
+pub mod notes;
+mod places;
