@@ -1,4 +1,4 @@
--- Safe, and ends.
+-- The loop counts up to its end, and every place that it touches is tested to be there.
 use mathlib.Core.Path.{_≡_}
 use lib.ListN.{length}
 use Prim.Native.Nat.{_-_}
