@@ -16,7 +16,7 @@ use crate::sheet::PARTS;
 use crate::sheet::WANTED;
 use crate::sheet::numbers_at;
 use crate::sheet::put;
-use crate::words::number_in;
+use crate::tokens::number_in;
 
 // An order, side or depth; anything larger is refused all the same.
 pub(crate) fn small(n: u64) -> u32 {

@@ -5,9 +5,9 @@ use crate::numbers::whole;
 use crate::sheet::begin;
 use crate::sheet::end_part;
 use crate::sheet::put;
-use crate::words::end_of;
-use crate::words::number_in;
-use crate::words::start_of;
+use crate::tokens::end_of;
+use crate::tokens::number_in;
+use crate::tokens::start_of;
 ghost use Prim.Native.Nat.{_≤_, _<_};
 ghost use lib.ListN.{length};
 

@@ -16,8 +16,8 @@ mod line;
 mod numbers;
 mod points;
 mod sheet;
+mod tokens;
 mod verdicts;
-mod words;
 
 // Runs the file that argument i names.
 fn run_argument(i: usize) {

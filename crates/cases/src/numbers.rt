@@ -4,7 +4,7 @@ use crate::floats::INFINITE;
 use crate::floats::NAN;
 use crate::floats::NEGATIVE;
 use crate::floats::bits;
-use crate::words::number_in;
+use crate::tokens::number_in;
 use decimals::Decimal;
 use wholes::Whole;
 ghost use Prim.Native.Nat.{_≤_};

@@ -5,8 +5,8 @@ use crate::numbers::ANY;
 use crate::sheet::ANSWERED;
 use crate::sheet::WANTED;
 use crate::sheet::numbers_at;
-use crate::words::end_of;
-use crate::words::start_of;
+use crate::tokens::end_of;
+use crate::tokens::start_of;
 
 // The verdicts. They are added up for a file, which has fewer than 2097152 lines, so that the sum tells how many there are of each.
 const NO_CASE: u64 = 0;

@@ -5,8 +5,8 @@ use lib.ListN.{length}
 use mathlib.Core.Path.{sym, _∙_, subst}
 use borrow.Author.Needs.{needs}
 use native.Mathlib.Omega.{arith}
-use Rattle.cases.proofs.words.end_of.Statement.{statement}
-use Rattle.cases.proofs.words.end_of.Tie as tie
+use Rattle.cases.proofs.tokens.start_of.Statement.{statement}
+use Rattle.cases.proofs.tokens.start_of.Tie as tie
 
 word-in : (c : tie.After-token)
     → GoesOn (c .before .before .before .before .args .at) (length (c .before .before .before .before .args .line .now)) (Word (c .token .given .0 .0) (c .token .given .0 .1 .0))
@@ -15,5 +15,5 @@ word-in c = subst (GoesOn _ _) (sym (c .before .before .next-token .ensures) ∙
 returns-2 : tie.Need-returns-2
 returns-2 c = let w = word-in (c .before) in let k = c .known-told .given in search needs
 
-pub end-of-spec : {M : Type 1} → statement M
-end-of-spec = tie.close (tie.spec (λ c κs. search needs) (λ c. search needs) (λ c. search needs) returns-2)
+pub start-of-spec : {M : Type 1} → statement M
+start-of-spec = tie.close (tie.spec (λ c κs. search needs) (λ c. search needs) (λ c. search needs) returns-2)

@@ -2,8 +2,8 @@
 use lib.ListN.{length}
 use Prim.Native.Nat.{_≤_, _-_}
 use borrow.Author.Needs.{needs}
-use Rattle.cases.proofs.words.number_in.Statement.{statement}
-use Rattle.cases.proofs.words.number_in.Tie as tie
+use Rattle.cases.proofs.tokens.number_in.Statement.{statement}
+use Rattle.cases.proofs.tokens.number_in.Tie as tie
 
 abbrev Inv-loop : tie.InvT-loop
 Inv-loop list word number₀ at₀ number at = (number ≤ at) × (at ≤ length list)

@@ -1,4 +1,4 @@
-// The words of a line.
+// The words of a line, as the tokens of `text` part them.
 use text::Token;
 use words::same;
 ghost use Prim.Native.Nat.{_≤_, _<_};
