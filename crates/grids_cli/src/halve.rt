@@ -56,6 +56,7 @@ fn halve_2d(shape: Shape, depth: u32, weights: &[u64], splits: &mut [u32], ids: 
         edition: 1,
         width: side(shape.width),
         height: side(shape.height),
+        first: 1,
         depth,
     };
     halving::rcb_2d(halving, weights, splits, ids)
@@ -68,6 +69,7 @@ fn halve_3d(shape: Shape, depth: u32, weights: &[u64], splits: &mut [u32], ids: 
         width: side(shape.width),
         height: side(shape.height),
         layers: side(shape.layers),
+        first: 1,
         depth,
     };
     halving::rcb_3d(halving, weights, splits, ids)
