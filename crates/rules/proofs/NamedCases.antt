@@ -11,12 +11,15 @@ use Rattle.rules.specs.Refusals.{readCoded, readCell2, readCell3, encode
 use Rattle.rules.specs.Curve.{encode, decode, seekDigit, undo, digitTable, nextTable, plane, octantTable, space, indexOf, coordinateOf, encode2, encode3, decode2, decode3}
 use Rattle.rules.specs.Halving.{Halved, loOf, hiOf, wholeUp, loUpOf, editionOf, reach, settle, cutOf, cutAt, uncut, nextAxis, unlessFlat, fill, splitsOf, turn, walk, idOf, idsOf, Halving, halving2, halving3, halve}
 
--- a cell of 2D or 3D at an order, with its index; a grid's edition, sides, first axis, depth and weights, with its splits and ids
+-- a cell of 2D or 3D at an order, with its index; a grid's edition, sides, first axis, depth and weights, with its splits and ids; and
+-- one that is refused, with its number
 pub data Case : Type 0 where
   on2 : (order x y index : ℕ) → Case
   on3 : (order x y z index : ℕ) → Case
   grid2 : (edition width height first depth : ℕ) (weights splits ids : List ℕ) → Case
   grid3 : (edition width height layers first depth : ℕ) (weights splits ids : List ℕ) → Case
+  refused2 : (edition width height first depth number : ℕ) → Case
+  refused3 : (edition width height layers first depth number : ℕ) → Case
 
 abbrev pub same : List ℕ → List ℕ → Bool
 same [] [] = true
@@ -43,12 +46,15 @@ holds (on3 order x y z i) =
     && answers (readCell3 (decode3 i order) .number) (readCell3 (decode3 i order) .value) (x ∷ y ∷ z ∷ [])
 holds (grid2 e w h f k ws splits ids) = halves (halving2 (record { edition = e; width = w; height = h; first = f; depth = k })) ws splits ids
 holds (grid3 e w h l f k ws splits ids) = halves (halving3 (record { edition = e; width = w; height = h; layers = l; first = f; depth = k })) ws splits ids
+holds (refused2 e w h f k n) = eqb (halve (halving2 (record { edition = e; width = w; height = h; first = f; depth = k })) [] [] [] .number) n
+holds (refused3 e w h l f k n) = eqb (halve (halving3 (record { edition = e; width = w; height = h; layers = l; first = f; depth = k })) [] [] [] .number) n
 
 abbrev pub all : List Case → Bool
 all [] = true
 all (c ∷ cs) = holds c && all cs
 
--- A1 to A7, B1 and B2, G1 to G3; G3 in edition 2: every cell is a part of its own; G2 across x first; eight cells across z, x, y
+-- A1 to A7, B1 and B2, G1 to G3; G3 in edition 2: every cell is a part of its own; G2 across x first; eight cells across z, x, y; and
+-- the order of 13, 14 and 9
 abbrev pub named : List Case
 named =
     on2 0 0 0 0
@@ -66,6 +72,10 @@ named =
     ∷ grid2 2 2 2 1 2 (replicate 4 1) (1 ∷ 1 ∷ 1 ∷ []) (0 ∷ 1 ∷ 2 ∷ 3 ∷ [])
     ∷ grid2 1 4 1 0 3 (10 ∷ 20 ∷ 30 ∷ 40 ∷ []) (2 ∷ 0 ∷ 0 ∷ 0 ∷ 1 ∷ 2 ∷ 3 ∷ []) (2 ∷ 3 ∷ 6 ∷ 7 ∷ [])
     ∷ grid3 2 2 2 2 2 3 (replicate 8 1) (replicate 7 1) (0 ∷ 2 ∷ 1 ∷ 3 ∷ 4 ∷ 6 ∷ 5 ∷ 7 ∷ [])
+    ∷ refused2 3 0 2 2 2 13
+    ∷ refused2 1 0 2 2 2 14
+    ∷ refused3 2 0 2 2 3 3 14
+    ∷ refused3 2 0 2 2 2 3 9
     ∷ []
 
 pub named-cases : T (all named)
