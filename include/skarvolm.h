@@ -16,6 +16,7 @@
  *  10  depth over 12
  *  11  a weight over 16,777,215
  *  13  the edition is neither 1 nor 2
+ *  14  the first axis is not one of the grid's
  *
  * A pointer is not null and points to live memory, a slice to as many elements as its length says (to any aligned address
  * where that is 0), and what is written overlaps nothing else that is passed.
@@ -90,14 +91,16 @@ uint32_t skarvolm_rcb_2d(uint32_t width, uint32_t height, uint32_t depth, const 
 uint32_t skarvolm_rcb_3d(uint32_t width, uint32_t height, uint32_t layers, uint32_t depth, const uint64_t *weights,
                          size_t weights_length, uint32_t *splits, size_t splits_length, uint32_t *ids, size_t ids_length);
 
-/* The same by the edition of a number. A cut keeps the left part's weight from lo to hi where it can, within one part in a
- * hundred of half the block's weight: edition 1 drops the fractions of both, edition 2 rounds lo up, so that two cells of
- * weight 1 come to lie on two sides. Tests 13, 9, 10, 5, 11. */
-uint32_t skarvolm_halve_2d(uint32_t edition, uint32_t width, uint32_t height, uint32_t depth, const uint64_t *weights,
-                           size_t weights_length, uint32_t *splits, size_t splits_length, uint32_t *ids, size_t ids_length);
-uint32_t skarvolm_halve_3d(uint32_t edition, uint32_t width, uint32_t height, uint32_t layers, uint32_t depth,
+/* The same by the edition of a number, and across any axis first: 0 is x, 1 is y, 2 is z, which a grid in 2D has not, and the
+ * others follow in turn, x, y, z, x. A wide, flat grid wants 0. A cut keeps the left part's weight from lo to hi where it can,
+ * within one part in a hundred of half the block's weight: edition 1 drops the fractions of both, edition 2 rounds lo up, so
+ * that two cells of weight 1 come to lie on two sides. Tests 13, 14, 9, 10, 5, 11. */
+uint32_t skarvolm_halve_2d(uint32_t edition, uint32_t width, uint32_t height, uint32_t first, uint32_t depth,
                            const uint64_t *weights, size_t weights_length, uint32_t *splits, size_t splits_length,
                            uint32_t *ids, size_t ids_length);
+uint32_t skarvolm_halve_3d(uint32_t edition, uint32_t width, uint32_t height, uint32_t layers, uint32_t first,
+                           uint32_t depth, const uint64_t *weights, size_t weights_length, uint32_t *splits,
+                           size_t splits_length, uint32_t *ids, size_t ids_length);
 
 #ifdef __cplusplus
 }

@@ -26,8 +26,8 @@ struct side {
     uint32_t (*rcb_2d)(uint32_t, uint32_t, uint32_t, const uint64_t *, size_t, uint32_t *, size_t, uint32_t *, size_t);
     uint32_t (*rcb_3d)(uint32_t, uint32_t, uint32_t, uint32_t, const uint64_t *, size_t, uint32_t *, size_t, uint32_t *,
                        size_t);
-    uint32_t (*halve_2d)(uint32_t, uint32_t, uint32_t, uint32_t, const uint64_t *, size_t, uint32_t *, size_t, uint32_t *,
-                         size_t);
+    uint32_t (*halve_2d)(uint32_t, uint32_t, uint32_t, uint32_t, uint32_t, const uint64_t *, size_t, uint32_t *, size_t,
+                         uint32_t *, size_t);
 };
 
 static const struct side library = {
@@ -163,7 +163,7 @@ static void run_halve_2d(const struct side *s, const struct operation *o, uint32
     size_t cells = cells_of(o), nodes = ((size_t)1 << o->order) - 1;
     for (uint32_t i = 0; i < calls; i++)
         answers.refused |=
-            s->halve_2d(2, o->sides[0], o->sides[1], o->order, weights, cells, answers.splits, nodes, answers.ids, cells);
+            s->halve_2d(2, o->sides[0], o->sides[1], 1, o->order, weights, cells, answers.splits, nodes, answers.ids, cells);
 }
 
 static const struct operation operations[] = {

@@ -30,8 +30,8 @@ static uint32_t empty_rcb_3d(uint32_t width, uint32_t height, uint32_t layers, u
                              size_t ids_length) {
     return 0;
 }
-static uint32_t empty_halve_2d(uint32_t edition, uint32_t width, uint32_t height, uint32_t depth, const uint64_t *weights,
-                               size_t weights_length, uint32_t *splits, size_t splits_length, uint32_t *ids,
-                               size_t ids_length) {
+static uint32_t empty_halve_2d(uint32_t edition, uint32_t width, uint32_t height, uint32_t first, uint32_t depth,
+                               const uint64_t *weights, size_t weights_length, uint32_t *splits, size_t splits_length,
+                               uint32_t *ids, size_t ids_length) {
     return 0;
 }

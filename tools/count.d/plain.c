@@ -311,12 +311,15 @@ static void halve(const struct halving *h, struct block b, uint32_t axis, uint32
     halve(h, right, next, 2 * node + 1, 2 * id + 1, depth - 1);
 }
 
-static uint32_t rcb(uint32_t edition, uint32_t axes, const uint32_t *sides, uint32_t depth, const uint64_t *weights,
-                    size_t weights_length, uint32_t *splits, size_t splits_length, uint32_t *ids, size_t ids_length) {
+static uint32_t rcb(uint32_t edition, uint32_t axes, const uint32_t *sides, uint32_t first, uint32_t depth,
+                    const uint64_t *weights, size_t weights_length, uint32_t *splits, size_t splits_length, uint32_t *ids,
+                    size_t ids_length) {
     uint64_t cells = 1;
     struct block whole = {{0, 0, 0}, {1, 1, 1}};
     if (edition != 1 && edition != 2)
         return 13;
+    if (first >= axes)
+        return 14;
     for (uint32_t a = 0; a < axes; a++) {
         if (sides[a] == 0 || sides[a] > 1024)
             return 9;
@@ -333,24 +336,25 @@ static uint32_t rcb(uint32_t edition, uint32_t axes, const uint32_t *sides, uint
         if (weights[i] > 16777215)
             return 11;
     struct halving h = {edition, axes, sides[0], sides[1], weights, splits, ids};
-    halve(&h, whole, 1, 1, 0, depth);
+    halve(&h, whole, first, 1, 0, depth);
     return 0;
 }
 
 uint32_t plain_rcb_2d(uint32_t width, uint32_t height, uint32_t depth, const uint64_t *weights, size_t weights_length,
                       uint32_t *splits, size_t splits_length, uint32_t *ids, size_t ids_length) {
     uint32_t sides[2] = {width, height};
-    return rcb(1, 2, sides, depth, weights, weights_length, splits, splits_length, ids, ids_length);
+    return rcb(1, 2, sides, 1, depth, weights, weights_length, splits, splits_length, ids, ids_length);
 }
 
 uint32_t plain_rcb_3d(uint32_t width, uint32_t height, uint32_t layers, uint32_t depth, const uint64_t *weights,
                       size_t weights_length, uint32_t *splits, size_t splits_length, uint32_t *ids, size_t ids_length) {
     uint32_t sides[3] = {width, height, layers};
-    return rcb(1, 3, sides, depth, weights, weights_length, splits, splits_length, ids, ids_length);
+    return rcb(1, 3, sides, 1, depth, weights, weights_length, splits, splits_length, ids, ids_length);
 }
 
-uint32_t plain_halve_2d(uint32_t edition, uint32_t width, uint32_t height, uint32_t depth, const uint64_t *weights,
-                        size_t weights_length, uint32_t *splits, size_t splits_length, uint32_t *ids, size_t ids_length) {
+uint32_t plain_halve_2d(uint32_t edition, uint32_t width, uint32_t height, uint32_t first, uint32_t depth,
+                        const uint64_t *weights, size_t weights_length, uint32_t *splits, size_t splits_length,
+                        uint32_t *ids, size_t ids_length) {
     uint32_t sides[2] = {width, height};
-    return rcb(edition, 2, sides, depth, weights, weights_length, splits, splits_length, ids, ids_length);
+    return rcb(edition, 2, sides, first, depth, weights, weights_length, splits, splits_length, ids, ids_length);
 }

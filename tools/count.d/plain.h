@@ -18,5 +18,6 @@ uint32_t plain_rcb_2d(uint32_t width, uint32_t height, uint32_t depth, const uin
                       uint32_t *splits, size_t splits_length, uint32_t *ids, size_t ids_length);
 uint32_t plain_rcb_3d(uint32_t width, uint32_t height, uint32_t layers, uint32_t depth, const uint64_t *weights,
                       size_t weights_length, uint32_t *splits, size_t splits_length, uint32_t *ids, size_t ids_length);
-uint32_t plain_halve_2d(uint32_t edition, uint32_t width, uint32_t height, uint32_t depth, const uint64_t *weights,
-                        size_t weights_length, uint32_t *splits, size_t splits_length, uint32_t *ids, size_t ids_length);
+uint32_t plain_halve_2d(uint32_t edition, uint32_t width, uint32_t height, uint32_t first, uint32_t depth,
+                        const uint64_t *weights, size_t weights_length, uint32_t *splits, size_t splits_length,
+                        uint32_t *ids, size_t ids_length);

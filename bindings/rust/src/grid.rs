@@ -26,29 +26,34 @@ impl Grid<2> {
         Self { size: [width, height] }
     }
 
-    /// Halves the grid `iter_count` times by edition 1, coupe's: see [`Grid::<2>::halve`].
+    /// Halves the grid `iter_count` times by edition 1, coupe's, across y first: see [`Grid::<2>::halve`].
     pub fn rcb(self, partition: &mut [u32], weights: &[u64], iter_count: u32) -> Result<Vec<u32>, Refused> {
-        self.halve(1, partition, weights, iter_count)
+        self.halve(1, 1, partition, weights, iter_count)
     }
 
-    /// Halves the grid `iter_count` times, across y first, then x, y, x: writes the part of each cell, and returns the cuts.
+    /// Halves the grid `iter_count` times, across the axis `first` (x is 0, y is 1), then the other, and so on: writes the part of
+    /// each cell, and returns the cuts.
     ///
     /// There are 2^iter_count - 1 cuts, the root's first, those of the halves of node i (counted from 1) at nodes 2i and
     /// 2i + 1, in grid coordinates, [`NOT_CUT`] for a node not cut. `edition` is 1 or 2: 2 rounds up the least that a left part
-    /// should weigh, where 1 drops its fraction. Refuses by [`Refused::Edition`], [`Refused::Sides`], [`Refused::Depth`] (of
-    /// `iter_count`), [`Refused::Lengths`], [`Refused::Weight`], in this order, and leaves `partition` untouched then.
+    /// should weigh, where 1 drops its fraction. Refuses by [`Refused::Edition`], [`Refused::First`], [`Refused::Sides`],
+    /// [`Refused::Depth`] (of `iter_count`), [`Refused::Lengths`], [`Refused::Weight`], in this order, and leaves `partition`
+    /// untouched then.
     ///
     /// ```
     /// use skarvolm::Grid;
     ///
     /// let mut partition = [0; 4];
-    /// Grid::new_2d(2, 2).halve(2, &mut partition, &[1; 4], 2)?;
+    /// Grid::new_2d(2, 2).halve(2, 1, &mut partition, &[1; 4], 2)?;
     /// assert_eq!(partition, [0, 1, 2, 3]);
+    /// Grid::new_2d(2, 2).halve(2, 0, &mut partition, &[1; 4], 2)?;
+    /// assert_eq!(partition, [0, 2, 1, 3]);
     /// # Ok::<(), skarvolm::Refused>(())
     /// ```
     pub fn halve(
         self,
         edition: u32,
+        first: u32,
         partition: &mut [u32],
         weights: &[u64],
         iter_count: u32,
@@ -61,6 +66,7 @@ impl Grid<2> {
                 edition,
                 width,
                 height,
+                first,
                 iter_count,
                 weights.as_ptr(),
                 weights.len(),
@@ -82,15 +88,17 @@ impl Grid<3> {
         }
     }
 
-    /// Halves the grid `iter_count` times by edition 1, coupe's: see [`Grid::<3>::halve`].
+    /// Halves the grid `iter_count` times by edition 1, coupe's, across y first: see [`Grid::<3>::halve`].
     pub fn rcb(self, partition: &mut [u32], weights: &[u64], iter_count: u32) -> Result<Vec<u32>, Refused> {
-        self.halve(1, partition, weights, iter_count)
+        self.halve(1, 1, partition, weights, iter_count)
     }
 
-    /// Halves the grid `iter_count` times, across y first, then z, x, y, as [`Grid::<2>::halve`] does in 2D.
+    /// Halves the grid `iter_count` times, across the axis `first` (x is 0, y is 1, z is 2), then the others in turn, x, y, z, x,
+    /// as [`Grid::<2>::halve`] does in 2D.
     pub fn halve(
         self,
         edition: u32,
+        first: u32,
         partition: &mut [u32],
         weights: &[u64],
         iter_count: u32,
@@ -104,6 +112,7 @@ impl Grid<3> {
                 width,
                 height,
                 layers,
+                first,
                 iter_count,
                 weights.as_ptr(),
                 weights.len(),

@@ -28,11 +28,13 @@ pub enum Refused {
     Weight = 11,
     /// The edition is neither 1 nor 2.
     Edition = 13,
+    /// The first axis is not one of the grid's.
+    First = 14,
 }
 
 impl Refused {
     /// Every refusal, in the order of the numbers.
-    pub const ALL: [Refused; 12] = [
+    pub const ALL: [Refused; 13] = [
         Refused::Order,
         Refused::Coordinate,
         Refused::Index,
@@ -45,9 +47,10 @@ impl Refused {
         Refused::Depth,
         Refused::Weight,
         Refused::Edition,
+        Refused::First,
     ];
 
-    /// The number of the refusal, from 1 to 11, or 13.
+    /// The number of the refusal, from 1 to 11, or 13 or 14.
     pub fn number(self) -> u32 {
         self as u32
     }
@@ -68,6 +71,7 @@ impl fmt::Display for Refused {
             Refused::Depth => "depth over 12",
             Refused::Weight => "a weight over 16,777,215",
             Refused::Edition => "the edition is neither 1 nor 2",
+            Refused::First => "the first axis is not one of the grid's",
         })
     }
 }

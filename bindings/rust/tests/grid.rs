@@ -1,4 +1,4 @@
-//! The named grids G1 to G3 in both editions, the limits of sides, depth and weights, and each refusal: the partition stays untouched.
+//! The named grids G1 to G3 in both editions and across x first, eight parts across each axis first, the limits of sides, depth and weights, and each refusal: the partition stays untouched.
 use skarvolm::{Grid, Refused, NOT_CUT};
 
 #[test]
@@ -27,13 +27,13 @@ fn g3() {
 fn g3_in_edition_2() {
     let mut partition = [9; 4];
     assert_eq!(
-        Grid::new_2d(2, 2).halve(2, &mut partition, &[1; 4], 2),
+        Grid::new_2d(2, 2).halve(2, 1, &mut partition, &[1; 4], 2),
         Ok(vec![1, 1, 1])
     );
     assert_eq!(partition, [0, 1, 2, 3]);
     let mut partition = [9; 8];
     assert_eq!(
-        Grid::new_3d(2, 2, 2).halve(2, &mut partition, &[1; 8], 3),
+        Grid::new_3d(2, 2, 2).halve(2, 1, &mut partition, &[1; 8], 3),
         Ok(vec![1; 7])
     );
     assert_eq!(partition, [0, 1, 4, 5, 2, 3, 6, 7]);
@@ -43,12 +43,12 @@ fn g3_in_edition_2() {
 fn g1_and_g2_are_the_same_in_edition_2() {
     let mut partition = [9; 16];
     assert_eq!(
-        Grid::new_2d(4, 4).halve(2, &mut partition, &[1; 16], 2),
+        Grid::new_2d(4, 4).halve(2, 1, &mut partition, &[1; 16], 2),
         Ok(vec![2, 2, 2])
     );
     assert_eq!(partition, [0, 0, 1, 1, 0, 0, 1, 1, 2, 2, 3, 3, 2, 2, 3, 3]);
     let mut partition = [9; 4];
-    let splits = Grid::new_2d(4, 1).halve(2, &mut partition, &[10, 20, 30, 40], 3);
+    let splits = Grid::new_2d(4, 1).halve(2, 1, &mut partition, &[10, 20, 30, 40], 3);
     assert_eq!(splits, Ok(vec![0, 0, 2, NOT_CUT, NOT_CUT, 0, 0]));
     assert_eq!(partition, [5, 5, 7, 7]);
 }
@@ -114,13 +114,59 @@ fn another_edition_is_refused_before_anything_else() {
     let mut partition = [9; 4];
     for edition in [0, 3, u32::MAX] {
         assert_eq!(
-            Grid::new_2d(0, 2).halve(edition, &mut partition, &[], 13),
+            Grid::new_2d(0, 2).halve(edition, 1, &mut partition, &[], 13),
             Err(Refused::Edition)
         );
         assert_eq!(
-            Grid::new_3d(2, 2, 1).halve(edition, &mut partition, &[1; 4], 2),
+            Grid::new_3d(2, 2, 1).halve(edition, 1, &mut partition, &[1; 4], 2),
             Err(Refused::Edition)
         );
     }
+    assert_eq!(partition, [9; 4]);
+}
+
+#[test]
+fn g2_across_x_first() {
+    let mut partition = [9; 4];
+    assert_eq!(
+        Grid::new_2d(4, 1).halve(1, 0, &mut partition, &[10, 20, 30, 40], 3),
+        Ok(vec![2, 0, 0, 0, 1, 2, 3])
+    );
+    assert_eq!(partition, [2, 3, 6, 7]);
+}
+
+#[test]
+fn eight_parts_across_each_axis_first() {
+    for (first, ids) in [
+        (0, [0, 4, 2, 6, 1, 5, 3, 7]),
+        (1, [0, 1, 4, 5, 2, 3, 6, 7]),
+        (2, [0, 2, 1, 3, 4, 6, 5, 7]),
+    ] {
+        let mut partition = [9; 8];
+        assert_eq!(
+            Grid::new_3d(2, 2, 2).halve(2, first, &mut partition, &[1; 8], 3),
+            Ok(vec![1; 7])
+        );
+        assert_eq!(partition, ids);
+    }
+}
+
+#[test]
+fn an_axis_that_the_grid_has_not_is_refused_after_the_edition() {
+    let mut partition = [9; 4];
+    for first in [2, 3, u32::MAX] {
+        assert_eq!(
+            Grid::new_2d(0, 2).halve(1, first, &mut partition, &[], 13),
+            Err(Refused::First)
+        );
+        assert_eq!(
+            Grid::new_2d(2, 2).halve(3, first, &mut partition, &[1; 4], 2),
+            Err(Refused::Edition)
+        );
+    }
+    assert_eq!(
+        Grid::new_3d(2, 2, 1).halve(2, 3, &mut partition, &[1; 4], 2),
+        Err(Refused::First)
+    );
     assert_eq!(partition, [9; 4]);
 }

@@ -93,7 +93,7 @@ pub(crate) fn call(name: &[u8], sheet: &mut [u64; 331776]) {
         1043 | 1144 => grids::rcb(0, sheet),
         1240 | 1241 | 1445 => points::index(request, 7, sheet),
         1350 | 1351 | 1557 => points::index(request, 8, sheet),
-        1644 | 1745 => grids::rcb(1, sheet),
+        1645 | 1746 => grids::rcb(1, sheet),
         _ => call_few(request, sheet),
     }
 }

@@ -1,10 +1,12 @@
 // Calls that halve a grid: `width height depth / weights / splits / ids`, with the layers behind the height in 3D, where the last
-// two parts are what the slices hold before. A call that names its edition has the number of that first of all.
+// two parts are what the slices hold before. A call that names its edition has the number of that first of all, and the first
+// axis before the depth.
 use crate::calls::small;
 use crate::sheet::least;
 use crate::sheet::numbers_at;
 use crate::sheet::put;
 use rules::DEFAULT_EDITION;
+use rules::DEFAULT_FIRST;
 use rules::Halving2;
 use rules::Halving3;
 ghost use Prim.Native.Nat.{_<_};
@@ -59,28 +61,29 @@ fn side(sides: &[u64], k: usize) -> u32 {
     0
 }
 
-// The edition that is the first of a request's numbers, where `named` is 1 and not 0.
-fn edition_of(sides: &[u64], named: usize) -> u32 {
+// Number k of a request's first part where `named` is 1, and where it is 0 what a call means that does not name it.
+fn named_or(meant: u32, sides: &[u64], named: usize, k: usize) -> u32 {
     if named == 0 {
-        return DEFAULT_EDITION;
+        return meant;
     }
-    side(sides, 0)
+    side(sides, k)
 }
 
-// Halves by the first part of the request, behind the edition the sides and the depth: in 2D where these are three numbers.
+// Halves by the first part of the request: the sides, the depth, and where they are named the edition and the first axis. In 2D
+// where these are three or five numbers.
 fn halve(sides: &[u64], named: usize, weights: &[u64], splits: &mut [u32], ids: &mut [u32]) -> u32
     requires { ⌜ named < 2 ⌝ }
 {
-    let edition = edition_of(sides, named);
+    let edition = named_or(DEFAULT_EDITION, sides, named, 0);
     let width = side(sides, named);
     let height = side(sides, named + 1);
-    let third = side(sides, named + 2);
-    if sides.len() == named + 3 {
+    if sides.len() == 2 * named + 3 {
         let halving = Halving2 {
             edition,
             width,
             height,
-            depth: third,
+            first: named_or(DEFAULT_FIRST, sides, named, 3),
+            depth: side(sides, 2 * named + 2),
         };
         return halving::rcb_2d(halving, weights, splits, ids);
     }
@@ -88,8 +91,9 @@ fn halve(sides: &[u64], named: usize, weights: &[u64], splits: &mut [u32], ids: 
         edition,
         width,
         height,
-        layers: third,
-        depth: side(sides, named + 3),
+        layers: side(sides, named + 2),
+        first: named_or(DEFAULT_FIRST, sides, named, 4),
+        depth: side(sides, 2 * named + 3),
     };
     halving::rcb_3d(halving, weights, splits, ids)
 }

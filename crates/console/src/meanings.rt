@@ -37,6 +37,7 @@ depth over 12
 a weight over 16,777,215
 
 the edition is neither 1 nor 2
+the first axis is not one of the grid's
 ",
     )
 }

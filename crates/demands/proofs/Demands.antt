@@ -94,7 +94,7 @@ pub demand-2-encode-decode-3d : EncodeDecode3
 demand-2-encode-decode-3d = encode-decode-3d
 
 -- DEMAND 3. "For any accepted grid and depth k .. each id from 0 to 2^k - 1: 99·200^k·w <= 99·101^k·T + 200^(k+1)·M and
--- 101·200^k·w + 200^(k+1)·M >= 101·99^k·T; the w of all ids add up to T", for both editions:
+-- 101·200^k·w + 200^(k+1)·M >= 101·99^k·T; the w of all ids add up to T", for both editions and every first axis:
 
 pub demand-3-2d : Demand3In2D
 demand-3-2d = demand-3-in-2d

@@ -17,15 +17,16 @@ use words::word;
 // What a command asks of a halving.
 pub struct Wish {
     pub edition: u32,
+    pub first: u32,
     pub depth: u32,
 }
 
-// The edition that word 5 names, the default where there is none.
-fn edition_of(line: &[u8]) -> u32 {
-    if word(line, 5).len() == 0 {
-        return rules::DEFAULT_EDITION;
+// The number that word `i` names, a default where there is no such word.
+fn asked_or(line: &[u8], i: usize, default: u32) -> u32 {
+    if word(line, i).len() == 0 {
+        return default;
     }
-    number_of(word(line, 5))
+    number_of(word(line, i))
 }
 
 // How many cuts a depth has.
@@ -58,6 +59,7 @@ fn halve_2d(shape: Shape, wish: Wish, weights: &[u64], splits: &mut [u32], ids: 
         edition: wish.edition,
         width: side(shape.width),
         height: side(shape.height),
+        first: wish.first,
         depth: wish.depth,
     };
     halving::rcb_2d(halving, weights, splits, ids)
@@ -70,6 +72,7 @@ fn halve_3d(shape: Shape, wish: Wish, weights: &[u64], splits: &mut [u32], ids: 
         width: side(shape.width),
         height: side(shape.height),
         layers: side(shape.layers),
+        first: wish.first,
         depth: wish.depth,
     };
     halving::rcb_3d(halving, weights, splits, ids)
@@ -157,7 +160,8 @@ pub(crate) fn of_text(line: &[u8], text: &[u8]) -> u8 {
         return FAILED;
     }
     let wish = Wish {
-        edition: edition_of(line),
+        edition: asked_or(line, 5, rules::DEFAULT_EDITION),
+        first: asked_or(line, 6, rules::DEFAULT_FIRST),
         depth: number_of(word(line, 3)),
     };
     halved(line, shape_of(grid, separator), wish, &weights)

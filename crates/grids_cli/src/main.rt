@@ -1,7 +1,7 @@
 // The command line's part for grids: halves them, and shows the parts of all cells, the cuts, or a picture.
 //
 // The script skarvolm knows the commands and hands their words on, each in its place: `report` or another word, the command, the file,
-// the depth, what is to be shown, and the edition. What is not asked for is an empty word.
+// the depth, what is to be shown, the edition, and the first axis. What is not asked for is an empty word.
 mod halve;
 mod listing;
 mod picture;

@@ -13,8 +13,8 @@ use Rattle.halve.proofs.halve_3d.Reads as halve-3d-reads
 pub clear-only : OnlyLeaving clear-kinds.ps clear-kinds.r clear-reads.Post (λ κs e. e .0 .now)
 clear-only κs a y z e f p q = (refl, same p q)
 
-pub halve-2d-only : OnlyLeaving {A = List ℕ × List ℕ} halve-2d-kinds.ps halve-2d-kinds.r halve-2d-reads.Post (λ κs e. (e .1 .1 .1 .0 .now, e .1 .1 .1 .1 .0 .now))
+pub halve-2d-only : OnlyLeaving {A = List ℕ × List ℕ} halve-2d-kinds.ps halve-2d-kinds.r halve-2d-reads.Post (λ κs e. (e .1 .1 .1 .1 .0 .now, e .1 .1 .1 .1 .1 .0 .now))
 halve-2d-only κs a y z e f p q = (refl, both (same (p .0) (q .0)) (same (p .1) (q .1)))
 
-pub halve-3d-only : OnlyLeaving {A = List ℕ × List ℕ} halve-3d-kinds.ps halve-3d-kinds.r halve-3d-reads.Post (λ κs e. (e .1 .1 .1 .0 .now, e .1 .1 .1 .1 .0 .now))
+pub halve-3d-only : OnlyLeaving {A = List ℕ × List ℕ} halve-3d-kinds.ps halve-3d-kinds.r halve-3d-reads.Post (λ κs e. (e .1 .1 .1 .1 .0 .now, e .1 .1 .1 .1 .1 .0 .now))
 halve-3d-only κs a y z e f p q = (refl, both (same (p .0) (q .0)) (same (p .1) (q .1)))

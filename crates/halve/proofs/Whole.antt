@@ -1,5 +1,5 @@
 -- The grid of a call that is not refused is a sound block, and its splits have places for all nodes.
-use Prim.Native.Nat.{ℕ, _-_, _*_, _^_, _≤_}
+use Prim.Native.Nat.{ℕ, _-_, _*_, _^_, _≤_, _<_}
 use native.Mathlib.Omega.{arith}
 use native.Mathlib.Nat.{zero-add, mul-one}
 use mathlib.Core.Path.{_≡_, refl, ap, sym, _∙_}
@@ -15,12 +15,13 @@ use Rattle.halving_laws.specs.Accepted.{Accepted}
 use Rattle.halving_laws.proofs.Heap.{room-root}
 use Rattle.halving_laws.proofs.Weights.{weight-at-most-all}
 use Rattle.halving_laws.proofs.Demand3.{weight-fits}
-use Rattle.blocks.specs.Blocks.{Shape, twoAxes, threeAxes, acrossY, sidesOf, asBlock, wholeOf, Layered, OneLayer}
+use Rattle.blocks.specs.Blocks.{Shape, twoAxes, threeAxes, across, sidesOf, asBlock, wholeOf, Layered, OneLayer}
 use Rattle.cuts.specs.Cuts.{solid, Readable, Lies, Sound}
 use Rattle.cuts.specs.Trees.{tree}
 use Rattle.halve.specs.Calls.{halvingOf}
 use Rattle.blocks.specs.declared.Grid.{Grid}
 use Rattle.blocks.specs.declared.SubGrid.{SubGrid}
+use Rattle.blocks.proofs.Axes.{no-across}
 use Rattle.cuts.proofs.Solids.{weight-is-solid}
 
 block-whole : (s : Shape) (g : Grid) → asBlock s (wholeOf g) ≡ whole (sidesOf s g)
@@ -29,10 +30,10 @@ block-whole twoAxes g = simp zero-add
 block-whole threeAxes g = simp zero-add
 
 -- the tree below the whole grid, written where no node was cut, is the rule's splits
-pub whole-tree : (s : Shape) (g : Grid) (k n : ℕ) (ws splits : List ℕ) (b : SubGrid) → b ≡ wholeOf g → splits ≡ replicate n uncut → n ≡ 2 ^ k - 1
-    → tree s g ws k acrossY b 1 splits ≡ splitsBy (halvingOf s g k) ws
+pub whole-tree : (s : Shape) (g : Grid) (first k n : ℕ) (ws splits : List ℕ) (b : SubGrid) → first < 3 → b ≡ wholeOf g → splits ≡ replicate n uncut → n ≡ 2 ^ k - 1
+    → tree s g ws k (across first) b 1 splits ≡ splitsBy (halvingOf s g first k) ws
 unfolding tree splitsOf
-whole-tree s g k n ws splits b e f l = rw (e, f, l, block-whole s g)
+whole-tree s g first k n ws splits b a e f l = rw (no-across first a, e, f, l, block-whole s g)
 
 -- the cells of the grid, its layers counted
 cells-are : (s : Shape) (g : Grid) → Layered s g → cells (sidesOf s g) ≡ g .width * (g .height * g .layers)
@@ -49,12 +50,12 @@ whole-layer twoAxes g y = (refl, y)
 whole-layer threeAxes g y = tt
 
 -- every side is at least 1 and at most the longest
-pub sides-fit : (s : Shape) (g : Grid) {k : ℕ} {ws splits ids : List ℕ} → Accepted (halvingOf s g k) ws splits ids → Layered s g
+pub sides-fit : (s : Shape) (g : Grid) {first k : ℕ} {ws splits ids : List ℕ} → Accepted (halvingOf s g first k) ws splits ids → Layered s g
     → ((1 ≤ g .width) × (g .width ≤ topSide)) × ((1 ≤ g .height) × (g .height ≤ topSide)) × (g .layers ≤ topSide)
 sides-fit twoAxes g r y = (r .sides-fit 0 (lit≤ tt), r .sides-fit 1 (lit≤ tt), omega (arith, y))
 sides-fit threeAxes g r y = (r .sides-fit 0 (lit≤ tt), r .sides-fit 1 (lit≤ tt), r .sides-fit 2 (lit≤ tt) .1)
 
-module _ (s : Shape) (g : Grid) {k : ℕ} {ws splits ids : List ℕ} (r : Accepted (halvingOf s g k) ws splits ids) (y : Layered s g) where
+module _ (s : Shape) (g : Grid) {first k : ℕ} {ws splits ids : List ℕ} (r : Accepted (halvingOf s g first k) ws splits ids) (y : Layered s g) where
   readable : Readable g ws
   readable =
       let f = sides-fit s g r y in

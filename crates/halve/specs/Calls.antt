@@ -4,6 +4,6 @@ use Rattle.rules.specs.Halving.{Halving}
 use Rattle.blocks.specs.Blocks.{Shape, sidesOf}
 use Rattle.blocks.specs.declared.Grid.{Grid}
 
--- k levels by the grid's edition, the first cut across y
-abbrev pub halvingOf : Shape → Grid → ℕ → Halving
-halvingOf s g k = record { edition = g .edition; sides = sidesOf s g; first = 1; depth = k }
+-- k levels by the grid's edition, the first cut across an axis
+abbrev pub halvingOf : Shape → Grid → ℕ → ℕ → Halving
+halvingOf s g first k = record { edition = g .edition; sides = sidesOf s g; first = first; depth = k }

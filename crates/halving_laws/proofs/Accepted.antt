@@ -6,7 +6,7 @@ use mathlib.Core.Bool.{false, not}
 use mathlib.Core.List.{List, [], _∷_}
 use lib.Dec.{eqb, ltb, lit≤}
 use lib.ListN.{getD, length}
-use borrow.Author.Tests.{eqb-true, eqb-false, ltb-false, not-false}
+use borrow.Author.Tests.{eqb-true, eqb-false, leb-false, ltb-false, not-false}
 use Rattle.rules.specs.Sums.{any}
 use Rattle.rules.specs.Grid.{cells, on}
 use Rattle.rules.specs.Refusals.{topSide, topCells, topDepth, topWeight, sideUnfit, sidesUnfit, lengthsOff, gridTests}
@@ -38,15 +38,16 @@ pub accepted : (h : Halving) (ws splits ids : List ℕ) → refusalOf h ws split
 unfolding gridTests
 accepted h ws splits ids e =
     let none = none-passes (halvingTests h ws splits ids) tt e in
-    let fit = sides-fit (h .sides) (none .1 .0) in
-    let long = neither (lengthsOff (cells (h .sides)) (length ws ∷ length ids ∷ [])) _ (none .1 .1 .1 .0) in
+    let fit = sides-fit (h .sides) (none .1 .1 .0) in
+    let long = neither (lengthsOff (cells (h .sides)) (length ws ∷ length ids ∷ [])) _ (none .1 .1 .1 .1 .0) in
     let cell-lengths = length-fits (cells (h .sides)) (length ws ∷ length ids ∷ []) (long .0) in
     record {
+      first-fits = leb-false (length (h .sides)) (h .first) (none .1 .0);
       sides-fit = fit .0;
       few = fit .1;
-      shallow = ltb-false topDepth (h .depth) (none .1 .1 .0);
+      shallow = ltb-false topDepth (h .depth) (none .1 .1 .1 .0);
       weights-long = cell-lengths 0 (lit≤ tt);
       ids-long = cell-lengths 1 (lit≤ tt);
       splits-long = length-fits (2 ^ h .depth - 1) (length splits ∷ []) (long .1) 0 (lit≤ tt);
-      light = λ i l. ltb-false topWeight _ (none-at (ltb topWeight) 0 ws (none .1 .1 .1 .1 .0) i l);
+      light = λ i l. ltb-false topWeight _ (none-at (ltb topWeight) 0 ws (none .1 .1 .1 .1 .1 .0) i l);
     }

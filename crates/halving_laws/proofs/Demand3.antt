@@ -1,8 +1,7 @@
--- Demand 3: the splits of a call that is not refused are a tree of fair cuts, and every such tree is balanced.
+-- Demand 3, in both editions and for every first axis: the splits of a call that is not refused are a tree of fair cuts, and every such tree is balanced.
 use Prim.Native.Nat.{ℕ, _^_, _≤_, _<_}
 use native.Mathlib.Omega.{arith}
 use mathlib.Core.List.{List}
-use lib.Dec.{lit≤}
 use lib.ListN.{getD, length}
 use Rattle.rules.specs.Grid.{cells, whole, allWeight}
 use Rattle.rules.specs.Refusals.{topWeight, sliceBy}
@@ -25,12 +24,12 @@ unfolding allWeight
 weight-fits {h} {ws} r =
     omega (arith, r .few, total-le (λ c. getD ws c 0) topWeight (cells (h .sides)) (λ c l. r .light c (omega (arith, r .weights-long))))
 
-module _ (h : Halving) (limits : (t : ℕ) → t < 2 ^ 45 → Limits (editionOf (h .edition)) t) (axis : h .first < length (h .sides)) where
+module _ (h : Halving) (limits : (t : ℕ) → t < 2 ^ 45 → Limits (editionOf (h .edition)) t) where
   -- the rule's cuts are fair
   pub fair : {ws splits ids : List ℕ} → Accepted h ws splits ids → FairTree (h .sides) ws (splitsBy h ws) (h .depth) (h .first) 1 (whole (h .sides))
   fair {ws} r =
       follows-fair (editionOf (h .edition)) (h .sides) ws (splitsBy h ws) (h .depth) (h .first) 1 (whole (h .sides))
-      (λ t l. limits t (omega (arith, weight-fits r))) axis (whole-length (h .sides)) (splits-follow (editionOf (h .edition)) (h .sides) ws (h .first) (h .depth))
+      (λ t l. limits t (omega (arith, weight-fits r))) (r .first-fits) (whole-length (h .sides)) (splits-follow (editionOf (h .edition)) (h .sides) ws (h .first) (h .depth))
 
   -- each cut lies in its block, and a node is uncut just where its side is 0 or its parent is uncut
   pub structured : {ws splits ids : List ℕ} → Accepted h ws splits ids → Structured (splitsBy h ws) (length (h .sides)) (h .depth) (h .first) 1 (whole (h .sides))
@@ -43,12 +42,12 @@ module _ (h : Halving) (limits : (t : ℕ) → t < 2 ^ 45 → Limits (editionOf 
   demand-3 ws splits ids e =
       let r = accepted h ws splits ids e in
       rw e (record {
-        balanced = λ i l. fair-tree-is-balanced (h .sides) ws (splitsBy h ws) (h .first) (h .depth) i axis (fair r) l;
+        balanced = λ i l. fair-tree-is-balanced (h .sides) ws (splitsBy h ws) (h .first) (h .depth) i (r .first-fits) (fair r) l;
         adds-up = parts-add-up (h .sides) ws (idsBy h ws) (2 ^ h .depth) (ids-below (h .sides) (h .first) (h .depth) (splitsBy h ws));
       })
 
 pub demand-3-in-2d : Demand3In2D
-demand-3-in-2d h = demand-3 (halving2 h) (edition-limits (h .edition)) (lit≤ tt)
+demand-3-in-2d h = demand-3 (halving2 h) (edition-limits (h .edition))
 
 pub demand-3-in-3d : Demand3In3D
-demand-3-in-3d h = demand-3 (halving3 h) (edition-limits (h .edition)) (lit≤ tt)
+demand-3-in-3d h = demand-3 (halving3 h) (edition-limits (h .edition))

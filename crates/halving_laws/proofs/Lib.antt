@@ -15,4 +15,5 @@ pub mod Nested
 pub mod Steps
 pub mod Accepted
 pub mod Answers
+pub mod Mirror
 pub mod Demand3

@@ -8,6 +8,7 @@ use Rattle.rules.specs.Refusals.{topSide, topCells, topDepth, topWeight}
 use Rattle.rules.specs.Halving.{Halving}
 
 pub record Accepted (h : Halving) (ws splits ids : List ℕ) : Type 0 where
+  pub first-fits : h .first < length (h .sides)
   pub sides-fit : (a : ℕ) → a < length (h .sides) → (1 ≤ on (h .sides) a) × (on (h .sides) a ≤ topSide)
   pub few : cells (h .sides) ≤ topCells
   pub shallow : h .depth ≤ topDepth

@@ -1,3 +1,4 @@
 pub mod Nodes
 pub mod Fair
 pub mod Accepted
+pub mod Mirror

@@ -21,6 +21,7 @@ products-fit w h d a b c =
     (hd, mul-le-mul (side-fits w a .1) hd)
 
 -- a grid in 2D and its one layer are refused alike
-pub one-layer : (e w h k : ℕ) (ws : List ℕ) (ids splits : ℕ) → firstOf (gridTests e (w ∷ h ∷ 1 ∷ []) k ws ids splits) ≡ firstOf (gridTests e (w ∷ h ∷ []) k ws ids splits)
+pub one-layer : (e n first w h k : ℕ) (ws : List ℕ) (ids splits : ℕ)
+    → firstOf (gridTests e n first (w ∷ h ∷ 1 ∷ []) k ws ids splits) ≡ firstOf (gridTests e n first (w ∷ h ∷ []) k ws ids splits)
 unfolding gridTests any cells
-one-layer e w h k ws ids splits = refl
+one-layer e n first w h k ws ids splits = refl

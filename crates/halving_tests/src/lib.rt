@@ -1,6 +1,7 @@
 // Whether a halving is refused, and with which number, inside: `halving` calls it. A grid in 2D is tested as one of one layer.
 //
 //   13   the edition is neither 1 nor 2
+//   14   the first axis is not one of the grid's
 //   9    a side is 0 or too long, or there are too many cells
 //   10   there are too many levels
 //   5    weights or ids are not one for each cell, or splits are not 2^depth - 1
@@ -16,6 +17,7 @@ use rules::Halving2;
 use rules::Halving3;
 use rules::REFUSED_DEPTH;
 use rules::REFUSED_EDITION;
+use rules::REFUSED_FIRST;
 use rules::REFUSED_LENGTHS;
 use rules::REFUSED_SIDES;
 use rules::REFUSED_WEIGHT;
@@ -93,12 +95,23 @@ fn weight_over(weights: &[u64]) -> bool
     false
 }
 
-// The number of refusal of a grid with `depth` levels, its weights, and so many ids and splits.
-fn refusal(g: Grid, depth: u32, weights: &[u64], ids: usize, splits: usize) -> u32
-    ensures { λ r. ⌜ r ≡ firstOf (gridTests (g .edition) (sidesOf threeAxes g) depth (now (weights .entry)) ids splits) ⌝ }
+// The number of refusal of a grid with `depth` levels from the first of so many axes on, its weights, and so many ids and splits.
+fn refusal(
+    g: Grid,
+    axes: u32,
+    first: u32,
+    depth: u32,
+    weights: &[u64],
+    ids: usize,
+    splits: usize,
+) -> u32
+    ensures { λ r. ⌜ r ≡ firstOf (gridTests (g .edition) axes first (sidesOf threeAxes g) depth (now (weights .entry)) ids splits) ⌝ }
 {
     if edition_unknown(g.edition) {
         return REFUSED_EDITION;
+    }
+    if first >= axes {
+        return REFUSED_FIRST;
     }
     if sides_unfit(g) {
         return REFUSED_SIDES;
@@ -121,7 +134,15 @@ pub fn refusal_2d(halving: Halving2, weights: &[u64], splits: &[u32], ids: &[u32
     ensures { λ r. ⌜ r ≡ refusalOf (halving2 halving) (now (weights .entry)) (now (splits .entry)) (now (ids .entry)) ⌝ }
 {
     let g = blocks::grid_2d(halving);
-    refusal(g, halving.depth, weights, ids.len(), splits.len())
+    refusal(
+        g,
+        2,
+        halving.first,
+        halving.depth,
+        weights,
+        ids.len(),
+        splits.len(),
+    )
 }
 
 // The number of refusal of a halving in 3D, 0 where it is answered.
@@ -129,5 +150,13 @@ pub fn refusal_3d(halving: Halving3, weights: &[u64], splits: &[u32], ids: &[u32
     ensures { λ r. ⌜ r ≡ refusalOf (halving3 halving) (now (weights .entry)) (now (splits .entry)) (now (ids .entry)) ⌝ }
 {
     let g = blocks::grid_3d(halving);
-    refusal(g, halving.depth, weights, ids.len(), splits.len())
+    refusal(
+        g,
+        3,
+        halving.first,
+        halving.depth,
+        weights,
+        ids.len(),
+        splits.len(),
+    )
 }

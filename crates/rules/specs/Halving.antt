@@ -92,6 +92,10 @@ cutAt e sides ws a b =
 
 -- THE TREE: node i at place i - 1, its children 2i and 2i + 1
 
+-- the axis of the first cut of a call or a stored grid that has none: y
+abbrev pub defaultFirst : ℕ
+defaultFirst = 1
+
 -- the mark of a node that is not cut
 abbrev pub uncut : ℕ
 uncut = 4294967295
@@ -147,7 +151,7 @@ idsOf sides first k s = list (idOf sides first k s) (cells sides)
 
 -- THE CALL
 
--- what describes a halving: the number of its edition, the sides, the axis of the first cut, which is y, and the levels
+-- what describes a halving: the number of its edition, the sides, the axis of the first cut, and the levels
 pub record Halving : Type 0 where
   pub edition : ℕ
   pub sides : List ℕ
@@ -155,17 +159,17 @@ pub record Halving : Type 0 where
   pub depth : ℕ
 
 abbrev pub halving2 : Halving2 → Halving
-halving2 h = record { edition = h .edition; sides = h .width ∷ h .height ∷ []; first = 1; depth = h .depth }
+halving2 h = record { edition = h .edition; sides = h .width ∷ h .height ∷ []; first = h .first; depth = h .depth }
 
 abbrev pub halving3 : Halving3 → Halving
-halving3 h = record { edition = h .edition; sides = h .width ∷ h .height ∷ h .layers ∷ []; first = 1; depth = h .depth }
+halving3 h = record { edition = h .edition; sides = h .width ∷ h .height ∷ h .layers ∷ []; first = h .first; depth = h .depth }
 
--- without a number of an edition
+-- without a number of an edition and a first axis
 abbrev pub of2 : ℕ → ℕ → ℕ → Halving2
-of2 width height depth = record { edition = defaultEdition; width = width; height = height; depth = depth }
+of2 width height depth = record { edition = defaultEdition; width = width; height = height; first = defaultFirst; depth = depth }
 
 abbrev pub of3 : ℕ → ℕ → ℕ → ℕ → Halving3
-of3 width height layers depth = record { edition = defaultEdition; width = width; height = height; layers = layers; depth = depth }
+of3 width height layers depth = record { edition = defaultEdition; width = width; height = height; layers = layers; first = defaultFirst; depth = depth }
 
 abbrev pub splitsBy : Halving → List ℕ → List ℕ
 splitsBy h ws = splitsOf (editionOf (h .edition)) (h .sides) ws (h .first) (h .depth)
@@ -181,7 +185,7 @@ pub record Halved : Type 0 where
 
 -- the tests of weights, splits and ids that are lent, and the number for them
 abbrev pub halvingTests : Halving → List ℕ → List ℕ → List ℕ → List Test
-halvingTests h ws splits ids = gridTests (h .edition) (h .sides) (h .depth) ws (length ids) (length splits)
+halvingTests h ws splits ids = gridTests (h .edition) (length (h .sides)) (h .first) (h .sides) (h .depth) ws (length ids) (length splits)
 
 abbrev pub refusalOf : Halving → List ℕ → List ℕ → List ℕ → ℕ
 refusalOf h ws splits ids = firstOf (halvingTests h ws splits ids)

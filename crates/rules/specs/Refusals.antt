@@ -113,6 +113,10 @@ weightOver ws = any (ltb topWeight) ws
 abbrev pub editionUnknown : ℕ → Bool
 editionUnknown n = not (eqb n 1) && not (eqb n 2)
 
+-- 14: of the axis that is cut first, of n axes from 0 on
+abbrev pub firstUnknown : ℕ → ℕ → Bool
+firstUnknown n first = leb n first
+
 -- THE ORDER OF TESTS of each call, each written once, as a list
 
 -- a test and its number
@@ -154,10 +158,11 @@ unfoldable pub indexTests : ℕ → ℕ → ℕ → List ℕ → Bool → Bool �
 indexTests most order n lengths unfit thin =
     test (orderOver most order) 1 ∷ test (noPoints n) 4 ∷ test (lengthsOff n lengths) 5 ∷ test unfit 6 ∷ test thin 7 ∷ []
 
--- of an edition's number and a grid with these sides, k levels, its weights, and the lengths of ids and splits
-unfoldable pub gridTests : ℕ → List ℕ → ℕ → List ℕ → ℕ → ℕ → List Test
-gridTests edition sides k ws ids splits =
+-- of an edition's number, the first of n axes, and a grid with these sides, k levels, its weights, and the lengths of ids and splits
+unfoldable pub gridTests : ℕ → ℕ → ℕ → List ℕ → ℕ → List ℕ → ℕ → ℕ → List Test
+gridTests edition n first sides k ws ids splits =
     test (editionUnknown edition) 13
+    ∷ test (firstUnknown n first) 14
     ∷ test (sidesUnfit sides) 9
     ∷ test (depthOver k) 10
     ∷ test (gridLengthsOff sides k (length ws) ids splits) 5

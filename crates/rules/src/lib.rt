@@ -1,4 +1,4 @@
-// Document 01 as definitions, with the editions of document 02: the answers, the records, the limits and the numbers of refusal stand here,
+// Document 01 as definitions, with the editions and first axes of document 02: the answers, the records, the limits and the numbers of refusal stand here,
 // and what each of them means stands in specs/, a file for a chapter:
 //
 //   Refusals  the test of each number, the order of tests of each call, the number and values of each answer
@@ -9,8 +9,8 @@
 //   Halving   lo and hi of both editions, the cut, the tree of splits, the ids
 //   Demands   what is to be shown of all this
 //
-// There is no function here but the two that make a halving's record without an edition, and no proof but that of the named
-// cases (proofs/NamedCases.antt).
+// There is no function here but the two that make a halving's record without an edition and a first axis, and no proof but
+// that of the named cases (proofs/NamedCases.antt).
 ghost use mathlib.Core.Path.{_≡_};
 ghost use Rattle.rules.specs.Halving.{of2, of3};
 
@@ -52,6 +52,9 @@ pub const EDITION_2: u32 = 2;
 // The edition of a halving that names none.
 pub const DEFAULT_EDITION: u32 = 1;
 
+// The first axis of a halving that names none: y.
+pub const DEFAULT_FIRST: u32 = 1;
+
 // The numbers of refusal. 0: answered.
 pub const ANSWERED: u32 = 0;
 
@@ -90,6 +93,9 @@ pub const REFUSED_WEIGHT: u32 = 11;
 
 // The edition is neither 1 nor 2.
 pub const REFUSED_EDITION: u32 = 13;
+
+// The first axis is not one of the grid's.
+pub const REFUSED_FIRST: u32 = 14;
 
 // An encoder's answer.
 pub enum Coded {
@@ -142,25 +148,27 @@ pub struct Extent {
     pub high: f64,
 }
 
-// What describes a halving in 2D.
+// What describes a halving in 2D. The first cut is across the axis `first`: x is 0, y is 1.
 pub struct Halving2 {
     pub edition: u32,
     pub width: u32,
     pub height: u32,
+    pub first: u32,
     pub depth: u32,
 }
 
-// What describes a halving in 3D.
+// What describes a halving in 3D. The first cut is across the axis `first`: x is 0, y is 1, z is 2.
 pub struct Halving3 {
     pub edition: u32,
     pub width: u32,
     pub height: u32,
     pub layers: u32,
+    pub first: u32,
     pub depth: u32,
 }
 
 impl Halving2 {
-    // A halving that names no edition.
+    // A halving that names no edition and no first axis.
     pub fn of(width: u32, height: u32, depth: u32) -> Self
         ensures { λ r. ⌜ r ≡ of2 width height depth ⌝ }
     {
@@ -168,13 +176,14 @@ impl Halving2 {
             edition: DEFAULT_EDITION,
             width,
             height,
+            first: DEFAULT_FIRST,
             depth,
         }
     }
 }
 
 impl Halving3 {
-    // A halving in 3D that names no edition.
+    // A halving in 3D that names no edition and no first axis.
     pub fn of(width: u32, height: u32, layers: u32, depth: u32) -> Self
         ensures { λ r. ⌜ r ≡ of3 width height layers depth ⌝ }
     {
@@ -183,6 +192,7 @@ impl Halving3 {
             width,
             height,
             layers,
+            first: DEFAULT_FIRST,
             depth,
         }
     }

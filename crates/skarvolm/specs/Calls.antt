@@ -24,9 +24,9 @@ rcb2 width height depth = halve (halving2 (of2 width height depth))
 abbrev pub rcb3 : ℕ → ℕ → ℕ → ℕ → List ℕ → List ℕ → List ℕ → Halved
 rcb3 width height layers depth = halve (halving3 (of3 width height layers depth))
 
--- the same behind the number of an edition
-abbrev pub halve2 : ℕ → ℕ → ℕ → ℕ → List ℕ → List ℕ → List ℕ → Halved
-halve2 edition width height depth = halve (halving2 (record { edition = edition; width = width; height = height; depth = depth }))
+-- the same behind the number of an edition, with the first axis before the depth
+abbrev pub halve2 : ℕ → ℕ → ℕ → ℕ → ℕ → List ℕ → List ℕ → List ℕ → Halved
+halve2 edition width height first depth = halve (halving2 (record { edition = edition; width = width; height = height; first = first; depth = depth }))
 
-abbrev pub halve3 : ℕ → ℕ → ℕ → ℕ → ℕ → List ℕ → List ℕ → List ℕ → Halved
-halve3 edition width height layers depth = halve (halving3 (record { edition = edition; width = width; height = height; layers = layers; depth = depth }))
+abbrev pub halve3 : ℕ → ℕ → ℕ → ℕ → ℕ → ℕ → List ℕ → List ℕ → List ℕ → Halved
+halve3 edition width height layers first depth = halve (halving3 (record { edition = edition; width = width; height = height; layers = layers; first = first; depth = depth }))

@@ -159,7 +159,7 @@ pub extern "C" fn skarvolm_index_3d_in(
     knots::index_3d_in(xs, ys, zs, x, y, z, order, indices)
 }
 
-// The splits and ids of a halved grid, by edition 1.
+// The splits and ids of a halved grid, by edition 1, across y first.
 #[no_mangle]
 pub extern "C" fn skarvolm_rcb_2d(
     width: u32,
@@ -177,7 +177,7 @@ pub extern "C" fn skarvolm_rcb_2d(
     halving::rcb_2d(halving, weights, splits, ids)
 }
 
-// The splits and ids of a halved grid in 3D, by edition 1.
+// The splits and ids of a halved grid in 3D, by edition 1, across y first.
 #[no_mangle]
 pub extern "C" fn skarvolm_rcb_3d(
     width: u32,
@@ -196,51 +196,55 @@ pub extern "C" fn skarvolm_rcb_3d(
     halving::rcb_3d(halving, weights, splits, ids)
 }
 
-// The splits and ids of a halved grid, by the edition of a number.
+// The splits and ids of a halved grid, by the edition of a number, across the axis `first` first.
 #[no_mangle]
 pub extern "C" fn skarvolm_halve_2d(
     edition: u32,
     width: u32,
     height: u32,
+    first: u32,
     depth: u32,
     weights: &[u64],
     splits: &mut [u32],
     ids: &mut [u32],
 ) -> u32
-    ensures number { λ r. ⌜ r ≡ halve2 edition width height depth (now (weights .entry)) (now (splits .entry)) (now (ids .entry)) .number ⌝ }
-    ensures splits { λ _. ⌜ now (splits .exit) ≡ halve2 edition width height depth (now (weights .entry)) (now (splits .entry)) (now (ids .entry)) .splits ⌝ }
-    ensures ids { λ _. ⌜ now (ids .exit) ≡ halve2 edition width height depth (now (weights .entry)) (now (splits .entry)) (now (ids .entry)) .ids ⌝ }
+    ensures number { λ r. ⌜ r ≡ halve2 edition width height first depth (now (weights .entry)) (now (splits .entry)) (now (ids .entry)) .number ⌝ }
+    ensures splits { λ _. ⌜ now (splits .exit) ≡ halve2 edition width height first depth (now (weights .entry)) (now (splits .entry)) (now (ids .entry)) .splits ⌝ }
+    ensures ids { λ _. ⌜ now (ids .exit) ≡ halve2 edition width height first depth (now (weights .entry)) (now (splits .entry)) (now (ids .entry)) .ids ⌝ }
 {
     let halving = Halving2 {
         edition,
         width,
         height,
+        first,
         depth,
     };
     halving::rcb_2d(halving, weights, splits, ids)
 }
 
-// The splits and ids of a halved grid in 3D, by the edition of a number.
+// The splits and ids of a halved grid in 3D, by the edition of a number, across the axis `first` first.
 #[no_mangle]
 pub extern "C" fn skarvolm_halve_3d(
     edition: u32,
     width: u32,
     height: u32,
     layers: u32,
+    first: u32,
     depth: u32,
     weights: &[u64],
     splits: &mut [u32],
     ids: &mut [u32],
 ) -> u32
-    ensures number { λ r. ⌜ r ≡ halve3 edition width height layers depth (now (weights .entry)) (now (splits .entry)) (now (ids .entry)) .number ⌝ }
-    ensures splits { λ _. ⌜ now (splits .exit) ≡ halve3 edition width height layers depth (now (weights .entry)) (now (splits .entry)) (now (ids .entry)) .splits ⌝ }
-    ensures ids { λ _. ⌜ now (ids .exit) ≡ halve3 edition width height layers depth (now (weights .entry)) (now (splits .entry)) (now (ids .entry)) .ids ⌝ }
+    ensures number { λ r. ⌜ r ≡ halve3 edition width height layers first depth (now (weights .entry)) (now (splits .entry)) (now (ids .entry)) .number ⌝ }
+    ensures splits { λ _. ⌜ now (splits .exit) ≡ halve3 edition width height layers first depth (now (weights .entry)) (now (splits .entry)) (now (ids .entry)) .splits ⌝ }
+    ensures ids { λ _. ⌜ now (ids .exit) ≡ halve3 edition width height layers first depth (now (weights .entry)) (now (splits .entry)) (now (ids .entry)) .ids ⌝ }
 {
     let halving = Halving3 {
         edition,
         width,
         height,
         layers,
+        first,
         depth,
     };
     halving::rcb_3d(halving, weights, splits, ids)

@@ -18,13 +18,13 @@ not-refused c = sym (c .before .refusal-2d .ensures) ∙ c .if1 .taken
 
 halve-2d-requires : tie.Need-halve-2d-requires
 halve-2d-requires c κs =
-    let grid = c .before .before .before in
+    let grid = c .before .before .before .before in
     (rw (grid .grid-2d .ensures) (accepted _ _ _ _ (not-refused (grid .before))), ap (λ (g : Grid). g .layers) (grid .grid-2d .ensures))
 
 returns : tie.Need-returns
 returns c =
     let halved = c .before .before .before .before in
-    let grid = halved .before .before .before .before in
+    let grid = halved .before .before .before .before .before in
     let tested = grid .before .before in
     let a = start tested .args in
     let e = answered (halving2 (a .halving)) (a .weights .now) (a .splits .now) (a .ids .now) (not-refused (grid .before)) in
@@ -43,6 +43,7 @@ rcb-2d-spec =
     (tie.spec
     (λ c κs. search needs)
     (λ c κs. search needs)
+    (λ c. search needs)
     (λ c. search needs)
     halve-2d-requires
     (λ c. search needs)

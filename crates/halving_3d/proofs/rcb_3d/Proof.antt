@@ -17,13 +17,13 @@ not-refused c = sym (c .before .refusal-3d .ensures) ∙ c .if1 .taken
 
 halve-3d-requires : tie.Need-halve-3d-requires
 halve-3d-requires c κs =
-    let grid = c .before .before .before in
+    let grid = c .before .before .before .before in
     (rw (grid .grid-3d .ensures) (accepted _ _ _ _ (not-refused (grid .before))), tt)
 
 returns : tie.Need-returns
 returns c =
     let halved = c .before .before .before .before in
-    let grid = halved .before .before .before .before in
+    let grid = halved .before .before .before .before .before in
     let tested = grid .before .before in
     let a = start tested .args in
     let e = answered (halving3 (a .halving)) (a .weights .now) (a .splits .now) (a .ids .now) (not-refused (grid .before)) in
@@ -42,6 +42,7 @@ rcb-3d-spec =
     (tie.spec
     (λ c κs. search needs)
     (λ c κs. search needs)
+    (λ c. search needs)
     (λ c. search needs)
     halve-3d-requires
     (λ c. search needs)

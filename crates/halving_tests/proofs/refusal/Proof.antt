@@ -7,24 +7,30 @@ use mathlib.Core.Bool.{false}
 use lib.Dec.{lit≤}
 use lib.ListN.{length}
 use borrow.Author.Needs.{needs}
-use borrow.Author.Tests.{lt-ltb, le-ltb}
-use Rattle.rules.specs.Refusals.{topSide, topCells, topDepth, editionUnknown, sidesUnfit, gridLengthsOff, gridTests}
+use borrow.Author.Tests.{lt-ltb, le-ltb, le-leb, lt-leb}
+use Rattle.rules.specs.Refusals.{topSide, topCells, topDepth, editionUnknown, firstUnknown, sidesUnfit, gridLengthsOff, gridTests}
 use Rattle.halving_laws.proofs.Accepted.{sides-fit}
 use Rattle.blocks.specs.Blocks.{threeAxes, sidesOf}
 use Rattle.halving_tests.proofs.ThreeSides.{cells-are}
 use Rattle.halving_tests.proofs.refusal.Statement.{statement}
 use Rattle.halving_tests.proofs.refusal.Tie as tie
 
--- where the call began, from where the sides were tested
-abbrev start : tie.Else2 → tie.Start
-start c = c .before .before .before .before .before
+-- where the call began, from where the first axis was tested, and from where the sides were
+abbrev begun : tie.Else2 → tie.Start
+begun c = c .before .before .before .before
 
--- the edition is known, and the sides fit
-known : (c : tie.Else2) → editionUnknown (start c .args .g .edition) ≡ false
-known c = let tested = c .before .before in sym (tested .before .edition-unknown .ensures) ∙ tested .if1 .left
+abbrev start : tie.Else3 → tie.Start
+start c = begun (c .before .before)
 
-fit : (c : tie.Else2) → sidesUnfit (sidesOf threeAxes (start c .args .g)) ≡ false
-fit c = sym (c .before .sides-unfit .ensures) ∙ c .if2 .left
+-- the edition is known, and so is the first axis, and the sides fit
+known : (c : tie.Else2) → editionUnknown (begun c .args .g .edition) ≡ false
+known c = let tested = c .before in sym (tested .before .edition-unknown .ensures) ∙ tested .if1 .left
+
+on-axis : (c : tie.Else2) → let a = begun c .args in firstUnknown (a .axes) (a .first) ≡ false
+on-axis c = lt-leb _ _ (c .if2 .left)
+
+fit : (c : tie.Else3) → sidesUnfit (sidesOf threeAxes (start c .args .g)) ≡ false
+fit c = sym (c .before .sides-unfit .ensures) ∙ c .if3 .left
 
 returns : tie.Need-returns
 unfolding gridTests
@@ -32,15 +38,17 @@ returns c = rw (sym (c .before .edition-unknown .ensures) ∙ c .if1 .taken)
 
 returns-2 : tie.Need-returns-2
 unfolding gridTests
-returns-2 c =
-    let tested = c .before .before in
-    rw (sym (tested .before .edition-unknown .ensures) ∙ tested .if1 .left, sym (c .before .sides-unfit .ensures) ∙ c .if2 .taken)
+returns-2 c = let tested = c .before in rw (sym (tested .before .edition-unknown .ensures) ∙ tested .if1 .left, le-leb _ _ (c .if2 .taken))
 
 returns-3 : tie.Need-returns-3
 unfolding gridTests
-returns-3 c = rw (known (c .before), fit (c .before), lt-ltb topDepth _ (c .if3 .taken))
+returns-3 c = let axis = c .before .before in rw (known axis, on-axis axis, sym (c .before .sides-unfit .ensures) ∙ c .if3 .taken)
 
-small : (c : tie.Else2) → let g = start c .args .g in (g .height * g .layers ≤ topSide * topSide) × (g .width * (g .height * g .layers) ≤ topCells)
+returns-4 : tie.Need-returns-4
+unfolding gridTests
+returns-4 c = let axis = c .before .before .before in rw (known axis, on-axis axis, fit (c .before), lt-ltb topDepth _ (c .if4 .taken))
+
+small : (c : tie.Else3) → let g = start c .args .g in (g .height * g .layers ≤ topSide * topSide) × (g .width * (g .height * g .layers) ≤ topCells)
 small c =
     let g = start c .args .g in
     let f = sides-fit (sidesOf threeAxes g) (fit c) in
@@ -60,26 +68,29 @@ off c =
     let g = start (c .before .before .before .before) .args .g in
     rw (cells-are (g .width) (g .height) (g .layers)) (c .lengths-off .ensures)
 
-returns-4 : tie.Need-returns-4
-unfolding gridTests
-returns-4 c =
-    let lengths = c .before in
-    let depth = lengths .before .before .before in
-    rw (known (depth .before), fit (depth .before), le-ltb topDepth _ (depth .if3 .left), sym (off lengths) ∙ c .if4 .taken)
-
 returns-5 : tie.Need-returns-5
 unfolding gridTests
 returns-5 c =
-    let long = c .before .before in
-    let depth = long .before .before .before .before in
-    rw (known (depth .before), fit (depth .before), le-ltb topDepth _ (depth .if3 .left), sym (off (long .before)) ∙ long .if4 .left, sym (c .before .weight-over .ensures) ∙ c .if5 .taken)
+    let lengths = c .before in
+    let depth = lengths .before .before .before in
+    let axis = depth .before .before .before in
+    rw (known axis, on-axis axis, fit (depth .before), le-ltb topDepth _ (depth .if4 .left), sym (off lengths) ∙ c .if5 .taken)
 
 returns-6 : tie.Need-returns-6
 unfolding gridTests
 returns-6 c =
     let long = c .before .before in
     let depth = long .before .before .before .before in
-    rw (known (depth .before), fit (depth .before), le-ltb topDepth _ (depth .if3 .left), sym (off (long .before)) ∙ long .if4 .left, sym (c .before .weight-over .ensures) ∙ c .if5 .left)
+    let axis = depth .before .before .before in
+    rw (known axis, on-axis axis, fit (depth .before), le-ltb topDepth _ (depth .if4 .left), sym (off (long .before)) ∙ long .if5 .left, sym (c .before .weight-over .ensures) ∙ c .if6 .taken)
+
+returns-7 : tie.Need-returns-7
+unfolding gridTests
+returns-7 c =
+    let long = c .before .before in
+    let depth = long .before .before .before .before in
+    let axis = depth .before .before .before in
+    rw (known axis, on-axis axis, fit (depth .before), le-ltb topDepth _ (depth .if4 .left), sym (off (long .before)) ∙ long .if5 .left, sym (c .before .weight-over .ensures) ∙ c .if6 .left)
 
 pub refusal-spec : {M : Type 1} → statement M
 refusal-spec =
@@ -87,13 +98,14 @@ refusal-spec =
     (tie.spec
     (λ c κs. search needs)
     returns
-    (λ c κs. search needs)
     returns-2
+    (λ c κs. search needs)
     returns-3
+    returns-4
     mul-cells
     mul-cells-2
     (λ c κs. search needs)
-    returns-4
-    (λ c κs. search needs)
     returns-5
-    returns-6)
+    (λ c κs. search needs)
+    returns-6
+    returns-7)

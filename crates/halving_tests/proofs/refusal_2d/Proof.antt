@@ -6,7 +6,7 @@ use Rattle.halving_tests.proofs.refusal_2d.Statement.{statement}
 use Rattle.halving_tests.proofs.refusal_2d.Tie as tie
 
 returns : tie.Need-returns
-returns c = c .refusal .ensures ∙ rw (c .before .grid-2d .ensures) (one-layer _ _ _ _ _ _ _)
+returns c = c .refusal .ensures ∙ rw (c .before .grid-2d .ensures) (one-layer _ _ _ _ _ _ _ _ _)
 
 pub refusal-2d-spec : {M : Type 1} → statement M
 refusal-2d-spec = tie.close (tie.spec (λ c κs. search needs) (λ c κs. search needs) returns)
