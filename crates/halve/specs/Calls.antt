@@ -4,6 +4,6 @@ use Rattle.rules.specs.Halving.{Halving}
 use Rattle.blocks.specs.Blocks.{Shape, sidesOf}
 use Rattle.blocks.specs.declared.Grid.{Grid}
 
--- k levels by the grid's edition, the first cut across y
-abbrev pub halvingOf : Shape → Grid → ℕ → Halving
-halvingOf s g k = record { edition = g .edition; sides = sidesOf s g; first = 1; depth = k }
+-- k levels by the edition of a number, the first cut across y
+abbrev pub halvingOf : ℕ → Shape → Grid → ℕ → Halving
+halvingOf e s g k = record { edition = e; sides = sidesOf s g; first = 1; depth = k }

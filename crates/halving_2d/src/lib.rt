@@ -13,7 +13,14 @@ pub fn rcb_2d(halving: Halving2, weights: &[u64], splits: &mut [u32], ids: &mut 
     let number = halving_tests::refusal_2d(halving, weights, splits, ids);
     if number == ANSWERED {
         let g = blocks::grid_2d(halving);
-        halve::halve_2d(g, halving.depth as usize, weights, splits, ids);
+        halve::halve_2d(
+            g,
+            halving.depth as usize,
+            weights,
+            splits,
+            ids,
+            halving.edition,
+        );
     }
     number
 }

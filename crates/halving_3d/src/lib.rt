@@ -13,7 +13,14 @@ pub fn rcb_3d(halving: Halving3, weights: &[u64], splits: &mut [u32], ids: &mut 
     let number = halving_tests::refusal_3d(halving, weights, splits, ids);
     if number == ANSWERED {
         let g = blocks::grid_3d(halving);
-        halve::halve_3d(g, halving.depth as usize, weights, splits, ids);
+        halve::halve_3d(
+            g,
+            halving.depth as usize,
+            weights,
+            splits,
+            ids,
+            halving.edition,
+        );
     }
     number
 }

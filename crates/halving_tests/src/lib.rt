@@ -93,11 +93,11 @@ fn weight_over(weights: &[u64]) -> bool
     false
 }
 
-// The number of refusal of a grid with `depth` levels, its weights, and so many ids and splits.
-fn refusal(g: Grid, depth: u32, weights: &[u64], ids: usize, splits: usize) -> u32
-    ensures { λ r. ⌜ r ≡ firstOf (gridTests (g .edition) (sidesOf threeAxes g) depth (now (weights .entry)) ids splits) ⌝ }
+// The number of refusal of an edition and a grid with `depth` levels, its weights, and so many ids and splits.
+fn refusal(edition: u32, g: Grid, depth: u32, weights: &[u64], ids: usize, splits: usize) -> u32
+    ensures { λ r. ⌜ r ≡ firstOf (gridTests edition (sidesOf threeAxes g) depth (now (weights .entry)) ids splits) ⌝ }
 {
-    if edition_unknown(g.edition) {
+    if edition_unknown(edition) {
         return REFUSED_EDITION;
     }
     if sides_unfit(g) {
@@ -121,7 +121,14 @@ pub fn refusal_2d(halving: Halving2, weights: &[u64], splits: &[u32], ids: &[u32
     ensures { λ r. ⌜ r ≡ refusalOf (halving2 halving) (now (weights .entry)) (now (splits .entry)) (now (ids .entry)) ⌝ }
 {
     let g = blocks::grid_2d(halving);
-    refusal(g, halving.depth, weights, ids.len(), splits.len())
+    refusal(
+        halving.edition,
+        g,
+        halving.depth,
+        weights,
+        ids.len(),
+        splits.len(),
+    )
 }
 
 // The number of refusal of a halving in 3D, 0 where it is answered.
@@ -129,5 +136,12 @@ pub fn refusal_3d(halving: Halving3, weights: &[u64], splits: &[u32], ids: &[u32
     ensures { λ r. ⌜ r ≡ refusalOf (halving3 halving) (now (weights .entry)) (now (splits .entry)) (now (ids .entry)) ⌝ }
 {
     let g = blocks::grid_3d(halving);
-    refusal(g, halving.depth, weights, ids.len(), splits.len())
+    refusal(
+        halving.edition,
+        g,
+        halving.depth,
+        weights,
+        ids.len(),
+        splits.len(),
+    )
 }

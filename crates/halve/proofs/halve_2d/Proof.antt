@@ -46,10 +46,10 @@ write-ids-requires c κs =
 -- the splits once all cuts are made
 cuts : (c : tie.After-recurse-2d-y)
     → let a = start (whole c) .args in
-    c .recurse-2d-y .last .1 .1 .1 .1 .1 .1 .0 ≡ splitsBy (halvingOf twoAxes (a .g) (a .depth)) (a .weights .now)
+    c .recurse-2d-y .last .1 .1 .1 .1 .1 .1 .0 ≡ splitsBy (halvingOf (a .edition) twoAxes (a .g) (a .depth)) (a .weights .now)
 cuts c =
     let block = whole c in
-    c .recurse-2d-y .ensures .0 ∙ whole-tree _ _ _ _ _ _ _ (block .whole .ensures) (cleared block .clear .ensures) (start block .pre .0 .splits-long)
+    c .recurse-2d-y .ensures .0 ∙ whole-tree _ _ _ _ _ _ _ _ (block .whole .ensures) (cleared block .clear .ensures) (start block .pre .0 .splits-long)
 
 returns : tie.Need-returns
 returns c =

@@ -54,10 +54,10 @@ write-ids-requires c κs =
 -- the splits once all cuts are made
 cuts : (c : tie.After-recurse-3d-y)
     → let a = start (whole c) .args in
-    c .recurse-3d-y .last .1 .1 .1 .1 .1 .1 .0 ≡ splitsBy (halvingOf threeAxes (a .g) (a .depth)) (a .weights .now)
+    c .recurse-3d-y .last .1 .1 .1 .1 .1 .1 .0 ≡ splitsBy (halvingOf (a .edition) threeAxes (a .g) (a .depth)) (a .weights .now)
 cuts c =
     let block = whole c in
-    c .recurse-3d-y .ensures .0 ∙ whole-tree _ _ _ _ _ _ _ (block .whole .ensures) (cleared block .clear .ensures) (start block .pre .0 .splits-long)
+    c .recurse-3d-y .ensures .0 ∙ whole-tree _ _ _ _ _ _ _ _ (block .whole .ensures) (cleared block .clear .ensures) (start block .pre .0 .splits-long)
 
 returns : tie.Need-returns
 returns c =

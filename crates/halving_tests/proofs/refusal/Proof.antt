@@ -20,7 +20,7 @@ abbrev start : tie.Else2 → tie.Start
 start c = c .before .before .before .before .before
 
 -- the edition is known, and the sides fit
-known : (c : tie.Else2) → editionUnknown (start c .args .g .edition) ≡ false
+known : (c : tie.Else2) → editionUnknown (start c .args .edition) ≡ false
 known c = let tested = c .before .before in sym (tested .before .edition-unknown .ensures) ∙ tested .if1 .left
 
 fit : (c : tie.Else2) → sidesUnfit (sidesOf threeAxes (start c .args .g)) ≡ false
