@@ -47,10 +47,10 @@ inTurn threeAxes acrossZ = acrossX
 
 -- the grid of a halving
 abbrev pub gridOf2 : Halving2 → Grid
-gridOf2 h = record { edition = h .edition; width = h .width; height = h .height; layers = 1 }
+gridOf2 h = record { width = h .width; height = h .height; layers = 1 }
 
 abbrev pub gridOf3 : Halving3 → Grid
-gridOf3 h = record { edition = h .edition; width = h .width; height = h .height; layers = h .layers }
+gridOf3 h = record { width = h .width; height = h .height; layers = h .layers }
 
 abbrev pub sidesOf : Shape → Grid → List ℕ
 sidesOf twoAxes g = g .width ∷ g .height ∷ []

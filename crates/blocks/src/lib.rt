@@ -1,7 +1,6 @@
 // A grid and its blocks, which know nothing of weights, inside: `cuts`, `tree` and what halves call it. A grid in 2D has one
 // layer.
 //
-//   grid     its sides, and the edition that its cuts are made by
 //   axis     a number: X, Y or Z
 //   cells    cell (x, y, z) stands at x + width * (y + height * z)
 //   block    its low corner and its sides; a cut across an axis leaves the lines before it and the rest
@@ -21,9 +20,8 @@ pub const Y: usize = 1;
 
 pub const Z: usize = 2;
 
-// The sides of a grid, and the number of the edition of its halving.
+// The sides of a grid.
 pub struct Grid {
-    pub edition: u32,
     pub width: usize,
     pub height: usize,
     pub layers: usize,
@@ -44,7 +42,6 @@ pub fn grid_2d(halving: Halving2) -> Grid
     ensures { λ r. ⌜ r ≡ gridOf2 halving ⌝ }
 {
     Grid {
-        edition: halving.edition,
         width: halving.width as usize,
         height: halving.height as usize,
         layers: 1,
@@ -56,7 +53,6 @@ pub fn grid_3d(halving: Halving3) -> Grid
     ensures { λ r. ⌜ r ≡ gridOf3 halving ⌝ }
 {
     Grid {
-        edition: halving.edition,
         width: halving.width as usize,
         height: halving.height as usize,
         layers: halving.layers as usize,

@@ -37,7 +37,7 @@ layer-right twoAxes acrossY b at h f = f
 layer-right twoAxes acrossZ b at h f = absurd h
 layer-right threeAxes ax b at h f = tt
 
-module _ {s : Shape} {g : Grid} {ws : List ℕ} {b : SubGrid} {t : ℕ} (r : Sound s g ws b t) (ax : Across) (h : Has s ax) where
+module _ (e : ℕ) {s : Shape} {g : Grid} {ws : List ℕ} {b : SubGrid} {t : ℕ} (r : Sound s g ws b t) (ax : Across) (h : Has s ax) where
   -- line i of the block is the solid of slab i
   line-is-solid : (i : ℕ) → i < side ax b → line (sidesOf s g) ws (asBlock s b) (no ax) (edge ax b + i) ≡ lineWeight g ws ax b i
   line-is-solid i l =
@@ -46,52 +46,52 @@ module _ {s : Shape} {g : Grid} {ws : List ℕ} {b : SubGrid} {t : ℕ} (r : Sou
       ∙ weight-is-solid g ws s (slab ax b i) (lies-lines (r .lies) ax i 1 (omega arith)) (layer-slab s ax b i h (r .one-layer))
 
   -- the cut of the lines is the rule's cut of the block
-  pub cut-on : edge ax b + cutLine g ws ax b t ≡ cutAt (editionOf (g .edition)) (sidesOf s g) ws (no ax) (asBlock s b)
+  pub cut-on : edge ax b + cutLine e g ws ax b t ≡ cutAt (editionOf e) (sidesOf s g) ws (no ax) (asBlock s b)
   unfolding cutAt
   cut-on =
       let f : ℕ → ℕ = λ i. line (sidesOf s g) ws (asBlock s b) (no ax) (edge ax b + i) in
       rw (block-edge s ax b h, block-side s ax b h, ← r .weight)
-      (ap (λ (k : ℕ). edge ax b + k) (sym (cut-ext f _ (side ax b) (editionOf (g .edition) .lo t) (editionOf (g .edition) .hi t) line-is-solid)))
+      (ap (λ (k : ℕ). edge ax b + k) (sym (cut-ext f _ (side ax b) (editionOf e .lo t) (editionOf e .hi t) line-is-solid)))
 
   module _ (some : 0 < side ax b) where
-    pub line-inside : cutLine g ws ax b t < side ax b
-    line-inside = cut-inside (lineWeight g ws ax b) (side ax b) (editionOf (g .edition) .lo t) (editionOf (g .edition) .hi t) some
+    pub line-inside : cutLine e g ws ax b t < side ax b
+    line-inside = cut-inside (lineWeight g ws ax b) (side ax b) (editionOf e .lo t) (editionOf e .hi t) some
 
-    first-weighs : total (lineWeight g ws ax b) (cutLine g ws ax b t) ≡ weight (sidesOf s g) ws (asBlock s (leftPart ax b (cutLine g ws ax b t)))
+    first-weighs : total (lineWeight g ws ax b) (cutLine e g ws ax b t) ≡ weight (sidesOf s g) ws (asBlock s (leftPart ax b (cutLine e g ws ax b t)))
     first-weighs =
         let f : ℕ → ℕ = λ i. line (sidesOf s g) ws (asBlock s b) (no ax) (edge ax b + i) in
-        sym (total-ext f _ (cutLine g ws ax b t) (λ i q. line-is-solid i (omega (arith, line-inside))))
-        ∙ (rw (block-edge s ax b h) at (lines-before (sidesOf s g) ws (no ax) (asBlock s b) (cutLine g ws ax b t) (no-below s ax b h)))
-        ∙ ap (weight (sidesOf s g) ws) (sym (block-left s ax b (cutLine g ws ax b t) h line-inside))
+        sym (total-ext f _ (cutLine e g ws ax b t) (λ i q. line-is-solid i (omega (arith, line-inside))))
+        ∙ (rw (block-edge s ax b h) at (lines-before (sidesOf s g) ws (no ax) (asBlock s b) (cutLine e g ws ax b t) (no-below s ax b h)))
+        ∙ ap (weight (sidesOf s g) ws) (sym (block-left s ax b (cutLine e g ws ax b t) h line-inside))
 
-    parts-add-up : total (lineWeight g ws ax b) (cutLine g ws ax b t) + weight (sidesOf s g) ws (asBlock s (rightPart ax b (cutLine g ws ax b t))) ≡ t
+    parts-add-up : total (lineWeight g ws ax b) (cutLine e g ws ax b t) + weight (sidesOf s g) ws (asBlock s (rightPart ax b (cutLine e g ws ax b t))) ≡ t
     parts-add-up =
-        rw (block-right s ax b (cutLine g ws ax b t) h line-inside, first-weighs, block-left s ax b (cutLine g ws ax b t) h line-inside)
-        (left-plus-right (sidesOf s g) ws (no ax) (edge ax b + cutLine g ws ax b t) (asBlock s b) (no-below s ax b h))
+        rw (block-right s ax b (cutLine e g ws ax b t) h line-inside, first-weighs, block-left s ax b (cutLine e g ws ax b t) h line-inside)
+        (left-plus-right (sidesOf s g) ws (no ax) (edge ax b + cutLine e g ws ax b t) (asBlock s b) (no-below s ax b h))
         ∙ sym (r .weight)
 
     -- what a cut leaves
 
-    pub left-at-most : (c : Cut) → c ≡ cutInto g ws ax b t → c .left ≤ t
+    pub left-at-most : (c : Cut) → c ≡ cutInto e g ws ax b t → c .left ≤ t
     unfolding cutInto
-    left-at-most c e = rw e (omega (arith, parts-add-up))
+    left-at-most c i = rw i (omega (arith, parts-add-up))
 
-    pub first-sound : (c : Cut) → c ≡ cutInto g ws ax b t → Sound s g ws (c .first) (c .left)
+    pub first-sound : (c : Cut) → c ≡ cutInto e g ws ax b t → Sound s g ws (c .first) (c .left)
     unfolding cutInto
-    first-sound c e =
-        rw e (record {
-          lies = lies-left (r .lies) ax (cutLine g ws ax b t) (omega (arith, line-inside));
-          one-layer = layer-left s ax b (cutLine g ws ax b t) h (r .one-layer);
+    first-sound c i =
+        rw i (record {
+          lies = lies-left (r .lies) ax (cutLine e g ws ax b t) (omega (arith, line-inside));
+          one-layer = layer-left s ax b (cutLine e g ws ax b t) h (r .one-layer);
           few = omega (arith, r .few, parts-add-up);
           weight = first-weighs;
         })
 
-    pub second-sound : (c : Cut) → c ≡ cutInto g ws ax b t → Sound s g ws (c .second) (t - c .left)
+    pub second-sound : (c : Cut) → c ≡ cutInto e g ws ax b t → Sound s g ws (c .second) (t - c .left)
     unfolding cutInto
-    second-sound c e =
-        rw e (record {
-          lies = lies-lines (r .lies) ax (cutLine g ws ax b t) (side ax b - cutLine g ws ax b t) (omega (arith, line-inside));
-          one-layer = layer-right s ax b (cutLine g ws ax b t) h (r .one-layer);
+    second-sound c i =
+        rw i (record {
+          lies = lies-lines (r .lies) ax (cutLine e g ws ax b t) (side ax b - cutLine e g ws ax b t) (omega (arith, line-inside));
+          one-layer = layer-right s ax b (cutLine e g ws ax b t) h (r .one-layer);
           few = omega (arith, r .few);
           weight = omega (arith, parts-add-up);
         })

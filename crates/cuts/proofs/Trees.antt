@@ -24,22 +24,22 @@ in-turn threeAxes acrossX g h = refl
 in-turn threeAxes acrossY g h = refl
 in-turn threeAxes acrossZ g h = refl
 
-module _ (s : Shape) (g : Grid) (ws : List ℕ) (d : ℕ) (ax : Across) (b : SubGrid) (node : ℕ) where
-  pub tree-end : (splits : List ℕ) → d ≡ 0 → splits ≡ tree s g ws d ax b node splits
+module _ (e : ℕ) (s : Shape) (g : Grid) (ws : List ℕ) (d : ℕ) (ax : Across) (b : SubGrid) (node : ℕ) where
+  pub tree-end : (splits : List ℕ) → d ≡ 0 → splits ≡ tree e s g ws d ax b node splits
   unfolding tree
-  tree-end splits z = fill-end (editionOf (g .edition)) (sidesOf s g) ws d (no ax) (asBlock s b) node splits z
+  tree-end splits z = fill-end (editionOf e) (sidesOf s g) ws d (no ax) (asBlock s b) node splits z
 
-  pub tree-flat : (splits : List ℕ) → Has s ax → side ax b ≡ 0 → splits ≡ tree s g ws d ax b node splits
+  pub tree-flat : (splits : List ℕ) → Has s ax → side ax b ≡ 0 → splits ≡ tree e s g ws d ax b node splits
   unfolding tree
-  tree-flat splits h z = fill-flat (editionOf (g .edition)) (sidesOf s g) ws d (no ax) (asBlock s b) node splits (block-side s ax b h ∙ z)
+  tree-flat splits h z = fill-flat (editionOf e) (sidesOf s g) ws d (no ax) (asBlock s b) node splits (block-side s ax b h ∙ z)
 
-  pub tree-cut : {t : ℕ} → Sound s g ws b t → (splits splits₁ splits₂ : List ℕ) (c : Cut) → Has s ax → (d ≡ 0 → ⊥) → 0 < side ax b → c ≡ cutInto g ws ax b t
-      → splits₁ ≡ tree s g ws (d - 1) (inTurn s ax) (c .first) (2 * node) (set splits (node - 1) (c .split))
-      → splits₂ ≡ tree s g ws (d - 1) (inTurn s ax) (c .second) (2 * node + 1) splits₁
-      → splits₂ ≡ tree s g ws d ax b node splits
+  pub tree-cut : {t : ℕ} → Sound s g ws b t → (splits splits₁ splits₂ : List ℕ) (c : Cut) → Has s ax → (d ≡ 0 → ⊥) → 0 < side ax b → c ≡ cutInto e g ws ax b t
+      → splits₁ ≡ tree e s g ws (d - 1) (inTurn s ax) (c .first) (2 * node) (set splits (node - 1) (c .split))
+      → splits₂ ≡ tree e s g ws (d - 1) (inTurn s ax) (c .second) (2 * node + 1) splits₁
+      → splits₂ ≡ tree e s g ws d ax b node splits
   unfolding tree cutInto
-  tree-cut {t} r splits splits₁ splits₂ c h f k e p q =
-      let at : ℕ = cutLine g ws ax b t in
-      let l = line-inside r ax h k in
-      rw (q, p, e, ← in-turn s ax g h, block-left s ax b at h l, block-right s ax b at h l)
-      (fill-cut (editionOf (g .edition)) (sidesOf s g) ws d (no ax) (asBlock s b) node (edge ax b + at) splits f (λ z. omega (arith, block-side s ax b h)) (cut-on r ax h))
+  tree-cut {t} r splits splits₁ splits₂ c h f k i p q =
+      let at : ℕ = cutLine e g ws ax b t in
+      let l = line-inside e r ax h k in
+      rw (q, p, i, ← in-turn s ax g h, block-left s ax b at h l, block-right s ax b at h l)
+      (fill-cut (editionOf e) (sidesOf s g) ws d (no ax) (asBlock s b) node (edge ax b + at) splits f (λ z. omega (arith, block-side s ax b h)) (cut-on e r ax h))

@@ -25,13 +25,13 @@ solid g ws b = solidSum ws (start g b) (stackOf g b) (b .layers)
 abbrev pub lineWeight : Grid → List ℕ → Across → SubGrid → ℕ → ℕ
 lineWeight g ws ax b i = solid g ws (slab ax b i)
 
--- the cut of a block of weight t by its lines' weights, for lo and hi of the grid's edition, and the parts that it leaves
-abbrev pub cutLine : Grid → List ℕ → Across → SubGrid → ℕ → ℕ
-cutLine g ws ax b t = cutOf (lineWeight g ws ax b) (side ax b) (editionOf (g .edition) .lo t) (editionOf (g .edition) .hi t)
+-- the cut of a block of weight t by its lines' weights, for lo and hi of the edition of a number, and the parts that it leaves
+abbrev pub cutLine : ℕ → Grid → List ℕ → Across → SubGrid → ℕ → ℕ
+cutLine e g ws ax b t = cutOf (lineWeight g ws ax b) (side ax b) (editionOf e .lo t) (editionOf e .hi t)
 
-unfoldable pub cutInto : Grid → List ℕ → Across → SubGrid → ℕ → Cut
-cutInto g ws ax b t =
-    let at : ℕ = cutLine g ws ax b t in
+unfoldable pub cutInto : ℕ → Grid → List ℕ → Across → SubGrid → ℕ → Cut
+cutInto e g ws ax b t =
+    let at : ℕ = cutLine e g ws ax b t in
     record { split = edge ax b + at; first = leftPart ax b at; left = total (lineWeight g ws ax b) at; second = rightPart ax b at }
 
 -- the sums once they are filled: the lines' weights, and behind them what stood there

@@ -1,4 +1,4 @@
--- The rule's tree below a block of the code, by the edition of its grid.
+-- The rule's tree below a block of the code, by the edition of a number.
 use Prim.Native.Nat.{ℕ}
 use mathlib.Core.List.{List}
 use Rattle.rules.specs.Halving.{editionOf, fill}
@@ -6,5 +6,5 @@ use Rattle.blocks.specs.Blocks.{Shape, Across, no, sidesOf, asBlock}
 use Rattle.blocks.specs.declared.Grid.{Grid}
 use Rattle.blocks.specs.declared.SubGrid.{SubGrid}
 
-unfoldable pub tree : Shape → Grid → List ℕ → ℕ → Across → SubGrid → ℕ → List ℕ → List ℕ
-tree s g ws k ax b node splits = fill (editionOf (g .edition)) (sidesOf s g) ws k (no ax) (asBlock s b) node splits
+unfoldable pub tree : ℕ → Shape → Grid → List ℕ → ℕ → Across → SubGrid → ℕ → List ℕ → List ℕ
+tree e s g ws k ax b node splits = fill (editionOf e) (sidesOf s g) ws k (no ax) (asBlock s b) node splits

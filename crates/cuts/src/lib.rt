@@ -47,7 +47,7 @@ pub fn weight(weights: &[u64], g: Grid, b: SubGrid) -> u64
     lines::solid(weights, blocks::corner(g, b), stack(g, b))
 }
 
-// How many lines of a block of weight `total` lie before its cut across an axis, and what they weigh; `sums` is filled with the
+// How many lines of a block of weight `total` lie before its cut across an axis, by an edition, and what they weigh; `sums` is filled with the
 // lines' weights.
 fn cut_place(
     axis: usize,
@@ -56,11 +56,12 @@ fn cut_place(
     b: SubGrid,
     total: u64,
     sums: &mut [u64; 1024],
+    edition: u32,
 ) -> WeightedMedian
     requires { ⌜ Lies g (now weights) b ⌝ }
     requires { ⌜ (0 < side (across axis) b) × (total < 35184372088832) ⌝ }
     requires { ⌜ length (now sums) ≡ topSide ⌝ }
-    ensures cut { λ r. ⌜ CutIs (lineWeight g (now (weights .entry)) (across axis) b) (side (across axis) b) (editionOf (g .edition) .lo total) (editionOf (g .edition) .hi total) (r .position) (r .left) ⌝ }
+    ensures cut { λ r. ⌜ CutIs (lineWeight g (now (weights .entry)) (across axis) b) (side (across axis) b) (editionOf edition .lo total) (editionOf edition .hi total) (r .position) (r .left) ⌝ }
     ensures lines { λ _. ⌜ now (sums .exit) ≡ filled g (now (weights .entry)) (across axis) b (now (sums .entry)) ⌝ }
 {
     let m = blocks::side(axis, b);
@@ -68,12 +69,12 @@ fn cut_place(
     let jump = blocks::stride(axis, g);
     let line = stack(g, blocks::left_part(axis, b, 1));
     lines::line_sums(weights, start, jump, m, line, sums);
-    let lo = median::min_part_weight(g.edition, total);
+    let lo = median::min_part_weight(edition, total);
     let hi = median::max_part_weight(total);
     median::weighted_median(sums, m, lo, hi)
 }
 
-// The cut of a block of weight `total` across an axis; `sums` is filled with the lines' weights.
+// The cut of a block of weight `total` across an axis, by an edition; `sums` is filled with the lines' weights.
 pub fn cut_block(
     axis: usize,
     weights: &[u64],
@@ -81,14 +82,15 @@ pub fn cut_block(
     b: SubGrid,
     total: u64,
     sums: &mut [u64; 1024],
+    edition: u32,
 ) -> Cut
     requires { ⌜ Lies g (now weights) b ⌝ }
     requires { ⌜ (0 < side (across axis) b) × (total < 35184372088832) ⌝ }
     requires { ⌜ length (now sums) ≡ topSide ⌝ }
-    ensures cut { λ r. ⌜ r ≡ cutInto g (now (weights .entry)) (across axis) b total ⌝ }
+    ensures cut { λ r. ⌜ r ≡ cutInto edition g (now (weights .entry)) (across axis) b total ⌝ }
     ensures lines { λ _. ⌜ now (sums .exit) ≡ filled g (now (weights .entry)) (across axis) b (now (sums .entry)) ⌝ }
 {
-    let median = cut_place(axis, weights, g, b, total, sums);
+    let median = cut_place(axis, weights, g, b, total, sums, edition);
     let at = median.position;
     Cut {
         split: blocks::split(axis, b, at),

@@ -30,10 +30,10 @@ block-whole twoAxes g = simp zero-add
 block-whole threeAxes g = simp zero-add
 
 -- the tree below the whole grid, written where no node was cut, is the rule's splits
-pub whole-tree : (s : Shape) (g : Grid) (first k n : ℕ) (ws splits : List ℕ) (b : SubGrid) → first < 3 → b ≡ wholeOf g → splits ≡ replicate n uncut → n ≡ 2 ^ k - 1
-    → tree s g ws k (across first) b 1 splits ≡ splitsBy (halvingOf s g first k) ws
+pub whole-tree : (e : ℕ) (s : Shape) (g : Grid) (first k n : ℕ) (ws splits : List ℕ) (b : SubGrid) → first < 3 → b ≡ wholeOf g → splits ≡ replicate n uncut → n ≡ 2 ^ k - 1
+    → tree e s g ws k (across first) b 1 splits ≡ splitsBy (halvingOf e s g first k) ws
 unfolding tree splitsOf
-whole-tree s g first k n ws splits b a e f l = rw (no-across first a, e, f, l, block-whole s g)
+whole-tree e s g first k n ws splits b a i f l = rw (no-across first a, i, f, l, block-whole s g)
 
 -- the cells of the grid, its layers counted
 cells-are : (s : Shape) (g : Grid) → Layered s g → cells (sidesOf s g) ≡ g .width * (g .height * g .layers)
@@ -50,12 +50,12 @@ whole-layer twoAxes g y = (refl, y)
 whole-layer threeAxes g y = tt
 
 -- every side is at least 1 and at most the longest
-pub sides-fit : (s : Shape) (g : Grid) {first k : ℕ} {ws splits ids : List ℕ} → Accepted (halvingOf s g first k) ws splits ids → Layered s g
+pub sides-fit : (s : Shape) (g : Grid) {e first k : ℕ} {ws splits ids : List ℕ} → Accepted (halvingOf e s g first k) ws splits ids → Layered s g
     → ((1 ≤ g .width) × (g .width ≤ topSide)) × ((1 ≤ g .height) × (g .height ≤ topSide)) × (g .layers ≤ topSide)
 sides-fit twoAxes g r y = (r .sides-fit 0 (lit≤ tt), r .sides-fit 1 (lit≤ tt), omega (arith, y))
 sides-fit threeAxes g r y = (r .sides-fit 0 (lit≤ tt), r .sides-fit 1 (lit≤ tt), r .sides-fit 2 (lit≤ tt) .1)
 
-module _ (s : Shape) (g : Grid) {first k : ℕ} {ws splits ids : List ℕ} (r : Accepted (halvingOf s g first k) ws splits ids) (y : Layered s g) where
+module _ (s : Shape) (g : Grid) {e first k : ℕ} {ws splits ids : List ℕ} (r : Accepted (halvingOf e s g first k) ws splits ids) (y : Layered s g) where
   readable : Readable g ws
   readable =
       let f = sides-fit s g r y in

@@ -20,6 +20,7 @@ pub fn rcb_2d(halving: Halving2, weights: &[u64], splits: &mut [u32], ids: &mut 
             weights,
             splits,
             ids,
+            halving.edition,
         );
     }
     number

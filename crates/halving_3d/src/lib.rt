@@ -20,6 +20,7 @@ pub fn rcb_3d(halving: Halving3, weights: &[u64], splits: &mut [u32], ids: &mut 
             weights,
             splits,
             ids,
+            halving.edition,
         );
     }
     number

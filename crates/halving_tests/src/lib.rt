@@ -95,8 +95,9 @@ fn weight_over(weights: &[u64]) -> bool
     false
 }
 
-// The number of refusal of a grid with `depth` levels from the first of so many axes on, its weights, and so many ids and splits.
+// The number of refusal of an edition and a grid with `depth` levels from the first of so many axes on, its weights, and so many ids and splits.
 fn refusal(
+    edition: u32,
     g: Grid,
     axes: u32,
     first: u32,
@@ -105,9 +106,9 @@ fn refusal(
     ids: usize,
     splits: usize,
 ) -> u32
-    ensures { λ r. ⌜ r ≡ firstOf (gridTests (g .edition) axes first (sidesOf threeAxes g) depth (now (weights .entry)) ids splits) ⌝ }
+    ensures { λ r. ⌜ r ≡ firstOf (gridTests edition axes first (sidesOf threeAxes g) depth (now (weights .entry)) ids splits) ⌝ }
 {
-    if edition_unknown(g.edition) {
+    if edition_unknown(edition) {
         return REFUSED_EDITION;
     }
     if first >= axes {
@@ -135,6 +136,7 @@ pub fn refusal_2d(halving: Halving2, weights: &[u64], splits: &[u32], ids: &[u32
 {
     let g = blocks::grid_2d(halving);
     refusal(
+        halving.edition,
         g,
         2,
         halving.first,
@@ -151,6 +153,7 @@ pub fn refusal_3d(halving: Halving3, weights: &[u64], splits: &[u32], ids: &[u32
 {
     let g = blocks::grid_3d(halving);
     refusal(
+        halving.edition,
         g,
         3,
         halving.first,

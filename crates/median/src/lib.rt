@@ -54,12 +54,14 @@ pub fn weighted_median(sums: &[u64; 1024], m: usize, lo: u64, hi: u64) -> Weight
     let mut last: u64 = 0;
     let mut left: u64 = 0;
     let mut j: usize = 0;
+    let mut before: usize = 0;
     while j + 1 < m {
         if lo <= left {
             break;
         }
         last = left;
         left += sums[j];
+        before = j;
         j += 1;
     }
     if left < lo {
@@ -74,7 +76,6 @@ pub fn weighted_median(sums: &[u64; 1024], m: usize, lo: u64, hi: u64) -> Weight
             left: left,
         };
     }
-    let before = j - 1;
     WeightedMedian {
         position: before,
         left: last,

@@ -16,7 +16,7 @@ ghost use Rattle.blocks.specs.Blocks.{twoAxes, acrossX, acrossY};
 ghost use Rattle.cuts.specs.Cuts.{Sound};
 ghost use Rattle.cuts.specs.Trees.{tree};
 
-// Writes the splits of `depth` levels below a block of weight `total`, the first across y;
+// Writes the splits of `depth` levels below a block of weight `total`, by an edition, the first across y;
 // `sums` is the array that the lines' weights are filled into.
 pub fn recurse_2d_y(
     weights: &[u64],
@@ -27,11 +27,12 @@ pub fn recurse_2d_y(
     depth: usize,
     splits: &mut [u32],
     sums: &mut [u64; 1024],
+    edition: u32,
 )
     requires { ⌜ Sound twoAxes g (now weights) b total ⌝ }
     requires { ⌜ Places node depth (length (now splits)) ⌝ }
     requires { ⌜ length (now sums) ≡ topSide ⌝ }
-    ensures cuts { λ _. ⌜ now (splits .exit) ≡ tree twoAxes g (now (weights .entry)) depth acrossY b node (now (splits .entry)) ⌝ }
+    ensures cuts { λ _. ⌜ now (splits .exit) ≡ tree edition twoAxes g (now (weights .entry)) depth acrossY b node (now (splits .entry)) ⌝ }
     ensures room { λ _. ⌜ length (now (sums .exit)) ≡ topSide ⌝ }
 {
     if depth == 0 {
@@ -40,12 +41,22 @@ pub fn recurse_2d_y(
     if b.height == 0 {
         return;
     }
-    let cut = cuts::cut_block(Y, weights, g, b, total, sums);
+    let cut = cuts::cut_block(Y, weights, g, b, total, sums, edition);
     let left = cut.left;
     let first = cut.first;
     let second = cut.second;
     splits[node - 1] = cut.split;
-    recurse_2d_x(weights, g, first, left, 2 * node, depth - 1, splits, sums);
+    recurse_2d_x(
+        weights,
+        g,
+        first,
+        left,
+        2 * node,
+        depth - 1,
+        splits,
+        sums,
+        edition,
+    );
     recurse_2d_x(
         weights,
         g,
@@ -55,10 +66,11 @@ pub fn recurse_2d_y(
         depth - 1,
         splits,
         sums,
+        edition,
     );
 }
 
-// Writes the splits of `depth` levels below a block of weight `total`, the first across x;
+// Writes the splits of `depth` levels below a block of weight `total`, by an edition, the first across x;
 // `sums` is the array that the lines' weights are filled into.
 pub fn recurse_2d_x(
     weights: &[u64],
@@ -69,11 +81,12 @@ pub fn recurse_2d_x(
     depth: usize,
     splits: &mut [u32],
     sums: &mut [u64; 1024],
+    edition: u32,
 )
     requires { ⌜ Sound twoAxes g (now weights) b total ⌝ }
     requires { ⌜ Places node depth (length (now splits)) ⌝ }
     requires { ⌜ length (now sums) ≡ topSide ⌝ }
-    ensures cuts { λ _. ⌜ now (splits .exit) ≡ tree twoAxes g (now (weights .entry)) depth acrossX b node (now (splits .entry)) ⌝ }
+    ensures cuts { λ _. ⌜ now (splits .exit) ≡ tree edition twoAxes g (now (weights .entry)) depth acrossX b node (now (splits .entry)) ⌝ }
     ensures room { λ _. ⌜ length (now (sums .exit)) ≡ topSide ⌝ }
 {
     if depth == 0 {
@@ -82,12 +95,22 @@ pub fn recurse_2d_x(
     if b.width == 0 {
         return;
     }
-    let cut = cuts::cut_block(X, weights, g, b, total, sums);
+    let cut = cuts::cut_block(X, weights, g, b, total, sums, edition);
     let left = cut.left;
     let first = cut.first;
     let second = cut.second;
     splits[node - 1] = cut.split;
-    recurse_2d_y(weights, g, first, left, 2 * node, depth - 1, splits, sums);
+    recurse_2d_y(
+        weights,
+        g,
+        first,
+        left,
+        2 * node,
+        depth - 1,
+        splits,
+        sums,
+        edition,
+    );
     recurse_2d_y(
         weights,
         g,
@@ -97,5 +120,6 @@ pub fn recurse_2d_x(
         depth - 1,
         splits,
         sums,
+        edition,
     );
 }

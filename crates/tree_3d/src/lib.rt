@@ -17,7 +17,7 @@ ghost use Rattle.blocks.specs.Blocks.{threeAxes, acrossX, acrossY, acrossZ};
 ghost use Rattle.cuts.specs.Cuts.{Sound};
 ghost use Rattle.cuts.specs.Trees.{tree};
 
-// Writes the splits of `depth` levels below a block of weight `total`, the first across y;
+// Writes the splits of `depth` levels below a block of weight `total`, by an edition, the first across y;
 // `sums` is the array that the lines' weights are filled into.
 pub fn recurse_3d_y(
     weights: &[u64],
@@ -28,11 +28,12 @@ pub fn recurse_3d_y(
     depth: usize,
     splits: &mut [u32],
     sums: &mut [u64; 1024],
+    edition: u32,
 )
     requires { ⌜ Sound threeAxes g (now weights) b total ⌝ }
     requires { ⌜ Places node depth (length (now splits)) ⌝ }
     requires { ⌜ length (now sums) ≡ topSide ⌝ }
-    ensures cuts { λ _. ⌜ now (splits .exit) ≡ tree threeAxes g (now (weights .entry)) depth acrossY b node (now (splits .entry)) ⌝ }
+    ensures cuts { λ _. ⌜ now (splits .exit) ≡ tree edition threeAxes g (now (weights .entry)) depth acrossY b node (now (splits .entry)) ⌝ }
     ensures room { λ _. ⌜ length (now (sums .exit)) ≡ topSide ⌝ }
 {
     if depth == 0 {
@@ -41,12 +42,22 @@ pub fn recurse_3d_y(
     if b.height == 0 {
         return;
     }
-    let cut = cuts::cut_block(Y, weights, g, b, total, sums);
+    let cut = cuts::cut_block(Y, weights, g, b, total, sums, edition);
     let left = cut.left;
     let first = cut.first;
     let second = cut.second;
     splits[node - 1] = cut.split;
-    recurse_3d_z(weights, g, first, left, 2 * node, depth - 1, splits, sums);
+    recurse_3d_z(
+        weights,
+        g,
+        first,
+        left,
+        2 * node,
+        depth - 1,
+        splits,
+        sums,
+        edition,
+    );
     recurse_3d_z(
         weights,
         g,
@@ -56,10 +67,11 @@ pub fn recurse_3d_y(
         depth - 1,
         splits,
         sums,
+        edition,
     );
 }
 
-// Writes the splits of `depth` levels below a block of weight `total`, the first across z;
+// Writes the splits of `depth` levels below a block of weight `total`, by an edition, the first across z;
 // `sums` is the array that the lines' weights are filled into.
 pub fn recurse_3d_z(
     weights: &[u64],
@@ -70,11 +82,12 @@ pub fn recurse_3d_z(
     depth: usize,
     splits: &mut [u32],
     sums: &mut [u64; 1024],
+    edition: u32,
 )
     requires { ⌜ Sound threeAxes g (now weights) b total ⌝ }
     requires { ⌜ Places node depth (length (now splits)) ⌝ }
     requires { ⌜ length (now sums) ≡ topSide ⌝ }
-    ensures cuts { λ _. ⌜ now (splits .exit) ≡ tree threeAxes g (now (weights .entry)) depth acrossZ b node (now (splits .entry)) ⌝ }
+    ensures cuts { λ _. ⌜ now (splits .exit) ≡ tree edition threeAxes g (now (weights .entry)) depth acrossZ b node (now (splits .entry)) ⌝ }
     ensures room { λ _. ⌜ length (now (sums .exit)) ≡ topSide ⌝ }
 {
     if depth == 0 {
@@ -83,12 +96,22 @@ pub fn recurse_3d_z(
     if b.layers == 0 {
         return;
     }
-    let cut = cuts::cut_block(Z, weights, g, b, total, sums);
+    let cut = cuts::cut_block(Z, weights, g, b, total, sums, edition);
     let left = cut.left;
     let first = cut.first;
     let second = cut.second;
     splits[node - 1] = cut.split;
-    recurse_3d_x(weights, g, first, left, 2 * node, depth - 1, splits, sums);
+    recurse_3d_x(
+        weights,
+        g,
+        first,
+        left,
+        2 * node,
+        depth - 1,
+        splits,
+        sums,
+        edition,
+    );
     recurse_3d_x(
         weights,
         g,
@@ -98,10 +121,11 @@ pub fn recurse_3d_z(
         depth - 1,
         splits,
         sums,
+        edition,
     );
 }
 
-// Writes the splits of `depth` levels below a block of weight `total`, the first across x;
+// Writes the splits of `depth` levels below a block of weight `total`, by an edition, the first across x;
 // `sums` is the array that the lines' weights are filled into.
 pub fn recurse_3d_x(
     weights: &[u64],
@@ -112,11 +136,12 @@ pub fn recurse_3d_x(
     depth: usize,
     splits: &mut [u32],
     sums: &mut [u64; 1024],
+    edition: u32,
 )
     requires { ⌜ Sound threeAxes g (now weights) b total ⌝ }
     requires { ⌜ Places node depth (length (now splits)) ⌝ }
     requires { ⌜ length (now sums) ≡ topSide ⌝ }
-    ensures cuts { λ _. ⌜ now (splits .exit) ≡ tree threeAxes g (now (weights .entry)) depth acrossX b node (now (splits .entry)) ⌝ }
+    ensures cuts { λ _. ⌜ now (splits .exit) ≡ tree edition threeAxes g (now (weights .entry)) depth acrossX b node (now (splits .entry)) ⌝ }
     ensures room { λ _. ⌜ length (now (sums .exit)) ≡ topSide ⌝ }
 {
     if depth == 0 {
@@ -125,12 +150,22 @@ pub fn recurse_3d_x(
     if b.width == 0 {
         return;
     }
-    let cut = cuts::cut_block(X, weights, g, b, total, sums);
+    let cut = cuts::cut_block(X, weights, g, b, total, sums, edition);
     let left = cut.left;
     let first = cut.first;
     let second = cut.second;
     splits[node - 1] = cut.split;
-    recurse_3d_y(weights, g, first, left, 2 * node, depth - 1, splits, sums);
+    recurse_3d_y(
+        weights,
+        g,
+        first,
+        left,
+        2 * node,
+        depth - 1,
+        splits,
+        sums,
+        edition,
+    );
     recurse_3d_y(
         weights,
         g,
@@ -140,5 +175,6 @@ pub fn recurse_3d_x(
         depth - 1,
         splits,
         sums,
+        edition,
     );
 }

@@ -59,7 +59,7 @@ returns c =
     let side = sums .before .before .before .before .before .before in
     let a = side .before .before .args in
     let cut = rw (fills sums, side .side .ensures, hi .before .min-part-weight .ensures, hi .max-part-weight .ensures) at (c .weighted-median .ensures) in
-    (rw (hi-stays (a .g .edition)) (cut-of-sums (a .g) (a .weights .now) (across (a .axis)) (a .b) (a .sums .now) _ _ cut), fills sums)
+    (rw (hi-stays (a .edition)) (cut-of-sums (a .g) (a .weights .now) (across (a .axis)) (a .b) (a .sums .now) _ _ cut), fills sums)
 
 pub cut-place-spec : {M : Type 1} → statement M
 cut-place-spec =

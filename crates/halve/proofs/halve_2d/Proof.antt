@@ -50,10 +50,10 @@ write-ids-requires c κs =
 -- the splits once all cuts are made
 cuts : (c : tie.After-begin-2d)
     → let a = start (whole c) .args in
-    c .begin-2d .last .1 .1 .1 .1 .1 .1 .0 ≡ splitsBy (halvingOf twoAxes (a .g) (a .first) (a .depth)) (a .weights .now)
+    c .begin-2d .last .1 .1 .1 .1 .1 .1 .0 ≡ splitsBy (halvingOf (a .edition) twoAxes (a .g) (a .first) (a .depth)) (a .weights .now)
 cuts c =
     let block = whole c in
-    c .begin-2d .ensures ∙ whole-tree _ _ _ _ _ _ _ _ (omega (arith, start block .pre .0 .first-fits)) (block .whole .ensures) (cleared block .clear .ensures) (start block .pre .0 .splits-long)
+    c .begin-2d .ensures ∙ whole-tree _ _ _ _ _ _ _ _ _ (omega (arith, start block .pre .0 .first-fits)) (block .whole .ensures) (cleared block .clear .ensures) (start block .pre .0 .splits-long)
 
 returns : tie.Need-returns
 returns c =

@@ -57,10 +57,10 @@ write-ids-requires c κs =
 -- the splits once all cuts are made
 cuts : (c : tie.After-begin-3d)
     → let a = start (whole c) .args in
-    c .begin-3d .last .1 .1 .1 .1 .1 .1 .0 ≡ splitsBy (halvingOf threeAxes (a .g) (a .first) (a .depth)) (a .weights .now)
+    c .begin-3d .last .1 .1 .1 .1 .1 .1 .0 ≡ splitsBy (halvingOf (a .edition) threeAxes (a .g) (a .first) (a .depth)) (a .weights .now)
 cuts c =
     let block = whole c in
-    c .begin-3d .ensures ∙ whole-tree _ _ _ _ _ _ _ _ (omega (arith, start block .pre .0 .first-fits)) (block .whole .ensures) (cleared block .clear .ensures) (start block .pre .0 .splits-long)
+    c .begin-3d .ensures ∙ whole-tree _ _ _ _ _ _ _ _ _ (omega (arith, start block .pre .0 .first-fits)) (block .whole .ensures) (cleared block .clear .ensures) (start block .pre .0 .splits-long)
 
 returns : tie.Need-returns
 returns c =

@@ -23,7 +23,7 @@ abbrev start : tie.Else3 → tie.Start
 start c = begun (c .before .before)
 
 -- the edition is known, and so is the first axis, and the sides fit
-known : (c : tie.Else2) → editionUnknown (begun c .args .g .edition) ≡ false
+known : (c : tie.Else2) → editionUnknown (begun c .args .edition) ≡ false
 known c = let tested = c .before in sym (tested .before .edition-unknown .ensures) ∙ tested .if1 .left
 
 on-axis : (c : tie.Else2) → let a = begun c .args in firstUnknown (a .axes) (a .first) ≡ false

@@ -1,4 +1,5 @@
--- `weighted_median` meets its contract: the search has not ended before j, and `left` and `last` weigh the lines before j and j - 1.
+-- `weighted_median` meets its contract: the search has not ended before j, `before` is j - 1, and `left` and `last` weigh the lines before
+-- the two.
 use Prim.Native.Nat.{ℕ, _+_, _-_, _*_, _≤_, _<_}
 use native.Mathlib.Omega.{arith}
 use mathlib.Core.Path.{_≡_, refl, ap, sym, _∙_}
@@ -15,29 +16,31 @@ use Rattle.median.proofs.weighted_median.Statement.{statement}
 use Rattle.median.proofs.weighted_median.Tie as tie
 
 -- what is known of the search at j
-record At (sums : List ℕ) (m lo last left j : ℕ) : Type 0 where
+record At (sums : List ℕ) (m lo last left j back : ℕ) : Type 0 where
   inside : j < m
   now-left : left ≡ total (lineAt sums) j
-  before : last ≡ total (lineAt sums) (j - 1)
+  one-back : back ≡ j - 1
+  before : last ≡ total (lineAt sums) back
   bound : left ≤ 18014397435740160 * j
   rest : reach (total (lineAt sums)) lo j (m - 1 - j) ≡ reach (total (lineAt sums)) lo 0 (m - 1)
 
 abbrev Inv-loop : tie.InvT-loop
-Inv-loop sums m lo hi last₀ left₀ j₀ last left j = At sums m lo last left j
+Inv-loop sums m lo hi last₀ left₀ j₀ before₀ last left j before = At sums m lo last left j before
 
 abbrev μ-loop : tie.MeasureT-loop
-μ-loop sums m lo hi last₀ left₀ j₀ last left j = m - j
+μ-loop sums m lo hi last₀ left₀ j₀ before₀ last left j before = m - j
 
-start : (sums : List ℕ) (m lo : ℕ) → 0 < m → At sums m lo 0 0 0
+start : (sums : List ℕ) (m lo : ℕ) → 0 < m → At sums m lo 0 0 0 0
 unfolding total
-start sums m lo h = record { inside = h; now-left = refl; before = refl; bound = omega arith; rest = ap (reach (total (lineAt sums)) lo 0) (omega arith) }
+start sums m lo h = record { inside = h; now-left = refl; one-back = refl; before = refl; bound = omega arith; rest = ap (reach (total (lineAt sums)) lo 0) (omega arith) }
 
-module _ {sums : List ℕ} {m lo last left j : ℕ} (a : At sums m lo last left j) where
-  step : left < lo → j + 1 < m → getD sums j 0 ≤ 18014397435740160 → At sums m lo left (left + getD sums j 0) (j + 1)
+module _ {sums : List ℕ} {m lo last left j back : ℕ} (a : At sums m lo last left j back) where
+  step : left < lo → j + 1 < m → getD sums j 0 ≤ 18014397435740160 → At sums m lo left (left + getD sums j 0) (j + 1) j
   step h l s = record {
     inside = l;
     now-left = omega (arith, a .now-left, total-more (lineAt sums) j);
-    before = a .now-left ∙ ap (total (lineAt sums)) (omega arith);
+    one-back = omega arith;
+    before = a .now-left;
     bound = omega (arith, a .bound);
     rest = sym (reach-step (total (lineAt sums)) lo j m (rw (← a .now-left) h) l) ∙ a .rest;
   }
@@ -62,11 +65,11 @@ module _ {sums : List ℕ} {m lo last left j : ℕ} (a : At sums m lo last left 
     within : left ≤ hi → CutIs (lineAt sums) m lo hi j left
     within h = here (settle-here (total (lineAt sums)) lo hi j (omega (arith, a .now-left)))
 
-    back : lo ≤ left → hi < left → CutIs (lineAt sums) m lo hi (j - 1) last
-    back l h = record {
-      place = place (j - 1) (settle-back (total (lineAt sums)) lo hi j (omega (arith, a .now-left)) (omega (arith, a .now-left)));
+    over-hi : lo ≤ left → hi < left → CutIs (lineAt sums) m lo hi back last
+    over-hi l h = record {
+      place = place back (settle-back (total (lineAt sums)) lo hi j (omega (arith, a .now-left)) (omega (arith, a .now-left)) ∙ sym (a .one-back));
       weight = a .before;
-      inside = omega (arith, a .inside);
+      inside = omega (arith, a .inside, a .one-back);
     }
 
 loop-holds : tie.Need-loop-holds Inv-loop μ-loop
@@ -82,9 +85,6 @@ add-left c = omega (arith, small c)
 loop-again : tie.Need-loop-again Inv-loop μ-loop
 loop-again c = step (c .before .before .before .loop .inv) (omega arith) (omega arith) (small c)
 
-sub-before : tie.Need-sub-before Inv-loop μ-loop
-sub-before c = omega (arith, c .before .before .before .loop .inv .bound)
-
 found : (c : tie.Left-loop Inv-loop μ-loop) → let a = c .before .before .args in reach (total (lineAt (a .sums .now))) (a .lo) 0 (a .m - 1) ≡ c .before .loop .j
 found c = ⊎-elim (λ w. over (c .before .loop .inv) (omega arith)) (λ w. stop (c .before .loop .inv) (omega arith)) (c .loop-test .came)
 
@@ -95,7 +95,7 @@ returns-2 : tie.Need-returns-2 Inv-loop μ-loop
 returns-2 c = let e = c .before .before in within (e .before .loop .inv) _ (found e) (c .if3 .taken)
 
 returns-3 : tie.Need-returns-3 Inv-loop μ-loop
-returns-3 c = let e = c .before .before in back (e .before .loop .inv) _ (found e) (c .before .if2 .left) (c .if3 .left)
+returns-3 c = let e = c .before .before in over-hi (e .before .loop .inv) _ (found e) (c .before .if2 .left) (c .if3 .left)
 
 pub weighted-median-spec : {M : Type 1} → statement M
 weighted-median-spec =
@@ -113,5 +113,4 @@ weighted-median-spec =
     loop-again
     returns
     returns-2
-    sub-before
     returns-3)

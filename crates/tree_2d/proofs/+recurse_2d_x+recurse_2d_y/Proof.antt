@@ -54,10 +54,10 @@ x-node-small t c =
     small-node _ _ _ (c .before .before .before .before .if1 .left) (entered .pre .1 .1 .0)
 
 x-returns : (t : ℕ) → x-lts.Need-returns (x-calls t) (x-at t) x.Post
-x-returns t c = (tree-end _ _ _ _ _ _ _ _ (c .if1 .taken), c .before .before .before .pre .1 .1 .1)
+x-returns t c = (tree-end _ _ _ _ _ _ _ _ _ (c .if1 .taken), c .before .before .before .pre .1 .1 .1)
 
 x-returns-2 : (t : ℕ) → x-lts.Need-returns-2 (x-calls t) (x-at t) x.Post
-x-returns-2 t c = (tree-flat _ _ _ _ _ _ _ _ tt (c .if2 .taken), c .before .before .before .before .before .pre .1 .1 .1)
+x-returns-2 t c = (tree-flat _ _ _ _ _ _ _ _ _ tt (c .if2 .taken), c .before .before .before .before .before .pre .1 .1 .1)
 
 x-cut-block-requires : (t : ℕ) → x-lts.Need-cut-block-requires (x-calls t) (x-at t) x.Post
 x-cut-block-requires t c κs =
@@ -93,7 +93,7 @@ x-recurse-2d-y-requires t c κs =
     let deeper = cut .before .before .before .before .if1 .left in (
       falls-by deeper (s .pre .0),
       (
-        first-sound (s .pre .1 .0) acrossX tt (pos-of-ne-zero (cut .before .before .if2 .left)) _ (cut .cut-block .ensures .0),
+        first-sound _ (s .pre .1 .0) acrossX tt (pos-of-ne-zero (cut .before .before .if2 .left)) _ (cut .cut-block .ensures .0),
         (
           rw (length-set (s .args .splits .now)) (first-places (s .pre .1 .1 .0) deeper),
           rw (cut .cut-block .ensures .1) (filled-room (s .pre .1 .0 .lies) acrossX _ (s .pre .1 .1 .1)),
@@ -104,7 +104,7 @@ x-recurse-2d-y-requires t c κs =
 x-sub-recurse-2d-y-2 : (t : ℕ) → x-lts.Need-sub-recurse-2d-y-2 (x-calls t) (x-at t) x.Post
 x-sub-recurse-2d-y-2 t c =
     let cut = c .before .before .before .before .before .before .before in
-    left-at-most (cut .before .before .before .before .before .before .before .pre .1 .0) acrossX tt (pos-of-ne-zero (cut .before .before .if2 .left)) _ (cut .cut-block .ensures .0)
+    left-at-most _ (cut .before .before .before .before .before .before .before .pre .1 .0) acrossX tt (pos-of-ne-zero (cut .before .before .if2 .left)) _ (cut .cut-block .ensures .0)
 
 x-mul-recurse-2d-y-2 : (t : ℕ) → x-lts.Need-mul-recurse-2d-y-2 (x-calls t) (x-at t) x.Post
 x-mul-recurse-2d-y-2 t c = omega (arith, x-node-small t (c .before .before .before .before .before .before .before))
@@ -125,7 +125,7 @@ x-recurse-2d-y-requires-2 t c κs =
     let first = c .before .before .before .before .recurse-2d-y in (
       falls-by deeper (s .pre .0),
       (
-        second-sound (s .pre .1 .0) acrossX tt (pos-of-ne-zero (cut .before .before .if2 .left)) _ (cut .cut-block .ensures .0),
+        second-sound _ (s .pre .1 .0) acrossX tt (pos-of-ne-zero (cut .before .before .if2 .left)) _ (cut .cut-block .ensures .0),
         (rw (first .kept .1 .1 .1 .1 .1 .1 .0 ∙ length-set (s .args .splits .now) _ _) (second-places (s .pre .1 .1 .0) deeper), first .ensures .1),
       ),
     )
@@ -142,7 +142,7 @@ x-returns-3 t c =
     let first = c .before .before .before .before .before .before .before in
     let cut = first .before .before .before .before .before in
     let second = c .before .before .recurse-2d-y2 in (
-      tree-cut _ _ _ _ acrossX _ _ (cut .before .before .before .before .before .before .before .pre .1 .0) _ _ _ _ tt (cut .before .before .before .before .if1 .left) (pos-of-ne-zero (cut .before .before .if2 .left))
+      tree-cut _ _ _ _ _ acrossX _ _ (cut .before .before .before .before .before .before .before .pre .1 .0) _ _ _ _ tt (cut .before .before .before .before .if1 .left) (pos-of-ne-zero (cut .before .before .if2 .left))
           (cut .cut-block .ensures .0) (first .recurse-2d-y .ensures .0) (second .ensures .0),
       second .ensures .1,
     )
@@ -155,10 +155,10 @@ y-node-small t c =
     small-node _ _ _ (c .before .before .before .before .if1 .left) (entered .pre .1 .1 .0)
 
 y-returns : (t : ℕ) → y-lts.Need-returns (y-calls t) (y-at t) y.Post
-y-returns t c = (tree-end _ _ _ _ _ _ _ _ (c .if1 .taken), c .before .before .before .pre .1 .1 .1)
+y-returns t c = (tree-end _ _ _ _ _ _ _ _ _ (c .if1 .taken), c .before .before .before .pre .1 .1 .1)
 
 y-returns-2 : (t : ℕ) → y-lts.Need-returns-2 (y-calls t) (y-at t) y.Post
-y-returns-2 t c = (tree-flat _ _ _ _ _ _ _ _ tt (c .if2 .taken), c .before .before .before .before .before .pre .1 .1 .1)
+y-returns-2 t c = (tree-flat _ _ _ _ _ _ _ _ _ tt (c .if2 .taken), c .before .before .before .before .before .pre .1 .1 .1)
 
 y-cut-block-requires : (t : ℕ) → y-lts.Need-cut-block-requires (y-calls t) (y-at t) y.Post
 y-cut-block-requires t c κs =
@@ -194,7 +194,7 @@ y-recurse-2d-x-requires t c κs =
     let deeper = cut .before .before .before .before .if1 .left in (
       falls-by deeper (s .pre .0),
       (
-        first-sound (s .pre .1 .0) acrossY tt (pos-of-ne-zero (cut .before .before .if2 .left)) _ (cut .cut-block .ensures .0),
+        first-sound _ (s .pre .1 .0) acrossY tt (pos-of-ne-zero (cut .before .before .if2 .left)) _ (cut .cut-block .ensures .0),
         (
           rw (length-set (s .args .splits .now)) (first-places (s .pre .1 .1 .0) deeper),
           rw (cut .cut-block .ensures .1) (filled-room (s .pre .1 .0 .lies) acrossY _ (s .pre .1 .1 .1)),
@@ -205,7 +205,7 @@ y-recurse-2d-x-requires t c κs =
 y-sub-recurse-2d-x-2 : (t : ℕ) → y-lts.Need-sub-recurse-2d-x-2 (y-calls t) (y-at t) y.Post
 y-sub-recurse-2d-x-2 t c =
     let cut = c .before .before .before .before .before .before .before in
-    left-at-most (cut .before .before .before .before .before .before .before .pre .1 .0) acrossY tt (pos-of-ne-zero (cut .before .before .if2 .left)) _ (cut .cut-block .ensures .0)
+    left-at-most _ (cut .before .before .before .before .before .before .before .pre .1 .0) acrossY tt (pos-of-ne-zero (cut .before .before .if2 .left)) _ (cut .cut-block .ensures .0)
 
 y-mul-recurse-2d-x-2 : (t : ℕ) → y-lts.Need-mul-recurse-2d-x-2 (y-calls t) (y-at t) y.Post
 y-mul-recurse-2d-x-2 t c = omega (arith, y-node-small t (c .before .before .before .before .before .before .before))
@@ -226,7 +226,7 @@ y-recurse-2d-x-requires-2 t c κs =
     let first = c .before .before .before .before .recurse-2d-x in (
       falls-by deeper (s .pre .0),
       (
-        second-sound (s .pre .1 .0) acrossY tt (pos-of-ne-zero (cut .before .before .if2 .left)) _ (cut .cut-block .ensures .0),
+        second-sound _ (s .pre .1 .0) acrossY tt (pos-of-ne-zero (cut .before .before .if2 .left)) _ (cut .cut-block .ensures .0),
         (rw (first .kept .1 .1 .1 .1 .1 .1 .0 ∙ length-set (s .args .splits .now) _ _) (second-places (s .pre .1 .1 .0) deeper), first .ensures .1),
       ),
     )
@@ -243,7 +243,7 @@ y-returns-3 t c =
     let first = c .before .before .before .before .before .before .before in
     let cut = first .before .before .before .before .before in
     let second = c .before .before .recurse-2d-x2 in (
-      tree-cut _ _ _ _ acrossY _ _ (cut .before .before .before .before .before .before .before .pre .1 .0) _ _ _ _ tt (cut .before .before .before .before .if1 .left) (pos-of-ne-zero (cut .before .before .if2 .left))
+      tree-cut _ _ _ _ _ acrossY _ _ (cut .before .before .before .before .before .before .before .pre .1 .0) _ _ _ _ tt (cut .before .before .before .before .if1 .left) (pos-of-ne-zero (cut .before .before .if2 .left))
           (cut .cut-block .ensures .0) (first .recurse-2d-x .ensures .0) (second .ensures .0),
       second .ensures .1,
     )

@@ -69,10 +69,10 @@ x-node-small t c =
     small-node _ _ _ (c .before .before .before .before .if1 .left) (entered .pre .1 .1 .0)
 
 x-returns : (t : ℕ) → x-lts.Need-returns (x-calls t) (x-at t) x.Post
-x-returns t c = (tree-end _ _ _ _ _ _ _ _ (c .if1 .taken), c .before .before .before .pre .1 .1 .1)
+x-returns t c = (tree-end _ _ _ _ _ _ _ _ _ (c .if1 .taken), c .before .before .before .pre .1 .1 .1)
 
 x-returns-2 : (t : ℕ) → x-lts.Need-returns-2 (x-calls t) (x-at t) x.Post
-x-returns-2 t c = (tree-flat _ _ _ _ _ _ _ _ tt (c .if2 .taken), c .before .before .before .before .before .pre .1 .1 .1)
+x-returns-2 t c = (tree-flat _ _ _ _ _ _ _ _ _ tt (c .if2 .taken), c .before .before .before .before .before .pre .1 .1 .1)
 
 x-cut-block-requires : (t : ℕ) → x-lts.Need-cut-block-requires (x-calls t) (x-at t) x.Post
 x-cut-block-requires t c κs =
@@ -108,7 +108,7 @@ x-recurse-3d-y-requires t c κs =
     let deeper = cut .before .before .before .before .if1 .left in (
       falls-by deeper (s .pre .0),
       (
-        first-sound (s .pre .1 .0) acrossX tt (pos-of-ne-zero (cut .before .before .if2 .left)) _ (cut .cut-block .ensures .0),
+        first-sound _ (s .pre .1 .0) acrossX tt (pos-of-ne-zero (cut .before .before .if2 .left)) _ (cut .cut-block .ensures .0),
         (
           rw (length-set (s .args .splits .now)) (first-places (s .pre .1 .1 .0) deeper),
           rw (cut .cut-block .ensures .1) (filled-room (s .pre .1 .0 .lies) acrossX _ (s .pre .1 .1 .1)),
@@ -119,7 +119,7 @@ x-recurse-3d-y-requires t c κs =
 x-sub-recurse-3d-y-2 : (t : ℕ) → x-lts.Need-sub-recurse-3d-y-2 (x-calls t) (x-at t) x.Post
 x-sub-recurse-3d-y-2 t c =
     let cut = c .before .before .before .before .before .before .before in
-    left-at-most (cut .before .before .before .before .before .before .before .pre .1 .0) acrossX tt (pos-of-ne-zero (cut .before .before .if2 .left)) _ (cut .cut-block .ensures .0)
+    left-at-most _ (cut .before .before .before .before .before .before .before .pre .1 .0) acrossX tt (pos-of-ne-zero (cut .before .before .if2 .left)) _ (cut .cut-block .ensures .0)
 
 x-mul-recurse-3d-y-2 : (t : ℕ) → x-lts.Need-mul-recurse-3d-y-2 (x-calls t) (x-at t) x.Post
 x-mul-recurse-3d-y-2 t c = omega (arith, x-node-small t (c .before .before .before .before .before .before .before))
@@ -140,7 +140,7 @@ x-recurse-3d-y-requires-2 t c κs =
     let first = c .before .before .before .before .recurse-3d-y in (
       falls-by deeper (s .pre .0),
       (
-        second-sound (s .pre .1 .0) acrossX tt (pos-of-ne-zero (cut .before .before .if2 .left)) _ (cut .cut-block .ensures .0),
+        second-sound _ (s .pre .1 .0) acrossX tt (pos-of-ne-zero (cut .before .before .if2 .left)) _ (cut .cut-block .ensures .0),
         (rw (first .kept .1 .1 .1 .1 .1 .1 .0 ∙ length-set (s .args .splits .now) _ _) (second-places (s .pre .1 .1 .0) deeper), first .ensures .1),
       ),
     )
@@ -157,7 +157,7 @@ x-returns-3 t c =
     let first = c .before .before .before .before .before .before .before in
     let cut = first .before .before .before .before .before in
     let second = c .before .before .recurse-3d-y2 in (
-      tree-cut _ _ _ _ acrossX _ _ (cut .before .before .before .before .before .before .before .pre .1 .0) _ _ _ _ tt (cut .before .before .before .before .if1 .left) (pos-of-ne-zero (cut .before .before .if2 .left))
+      tree-cut _ _ _ _ _ acrossX _ _ (cut .before .before .before .before .before .before .before .pre .1 .0) _ _ _ _ tt (cut .before .before .before .before .if1 .left) (pos-of-ne-zero (cut .before .before .if2 .left))
           (cut .cut-block .ensures .0) (first .recurse-3d-y .ensures .0) (second .ensures .0),
       second .ensures .1,
     )
@@ -170,10 +170,10 @@ y-node-small t c =
     small-node _ _ _ (c .before .before .before .before .if1 .left) (entered .pre .1 .1 .0)
 
 y-returns : (t : ℕ) → y-lts.Need-returns (y-calls t) (y-at t) y.Post
-y-returns t c = (tree-end _ _ _ _ _ _ _ _ (c .if1 .taken), c .before .before .before .pre .1 .1 .1)
+y-returns t c = (tree-end _ _ _ _ _ _ _ _ _ (c .if1 .taken), c .before .before .before .pre .1 .1 .1)
 
 y-returns-2 : (t : ℕ) → y-lts.Need-returns-2 (y-calls t) (y-at t) y.Post
-y-returns-2 t c = (tree-flat _ _ _ _ _ _ _ _ tt (c .if2 .taken), c .before .before .before .before .before .pre .1 .1 .1)
+y-returns-2 t c = (tree-flat _ _ _ _ _ _ _ _ _ tt (c .if2 .taken), c .before .before .before .before .before .pre .1 .1 .1)
 
 y-cut-block-requires : (t : ℕ) → y-lts.Need-cut-block-requires (y-calls t) (y-at t) y.Post
 y-cut-block-requires t c κs =
@@ -209,7 +209,7 @@ y-recurse-3d-z-requires t c κs =
     let deeper = cut .before .before .before .before .if1 .left in (
       falls-by deeper (s .pre .0),
       (
-        first-sound (s .pre .1 .0) acrossY tt (pos-of-ne-zero (cut .before .before .if2 .left)) _ (cut .cut-block .ensures .0),
+        first-sound _ (s .pre .1 .0) acrossY tt (pos-of-ne-zero (cut .before .before .if2 .left)) _ (cut .cut-block .ensures .0),
         (
           rw (length-set (s .args .splits .now)) (first-places (s .pre .1 .1 .0) deeper),
           rw (cut .cut-block .ensures .1) (filled-room (s .pre .1 .0 .lies) acrossY _ (s .pre .1 .1 .1)),
@@ -220,7 +220,7 @@ y-recurse-3d-z-requires t c κs =
 y-sub-recurse-3d-z-2 : (t : ℕ) → y-lts.Need-sub-recurse-3d-z-2 (y-calls t) (y-at t) y.Post
 y-sub-recurse-3d-z-2 t c =
     let cut = c .before .before .before .before .before .before .before in
-    left-at-most (cut .before .before .before .before .before .before .before .pre .1 .0) acrossY tt (pos-of-ne-zero (cut .before .before .if2 .left)) _ (cut .cut-block .ensures .0)
+    left-at-most _ (cut .before .before .before .before .before .before .before .pre .1 .0) acrossY tt (pos-of-ne-zero (cut .before .before .if2 .left)) _ (cut .cut-block .ensures .0)
 
 y-mul-recurse-3d-z-2 : (t : ℕ) → y-lts.Need-mul-recurse-3d-z-2 (y-calls t) (y-at t) y.Post
 y-mul-recurse-3d-z-2 t c = omega (arith, y-node-small t (c .before .before .before .before .before .before .before))
@@ -241,7 +241,7 @@ y-recurse-3d-z-requires-2 t c κs =
     let first = c .before .before .before .before .recurse-3d-z in (
       falls-by deeper (s .pre .0),
       (
-        second-sound (s .pre .1 .0) acrossY tt (pos-of-ne-zero (cut .before .before .if2 .left)) _ (cut .cut-block .ensures .0),
+        second-sound _ (s .pre .1 .0) acrossY tt (pos-of-ne-zero (cut .before .before .if2 .left)) _ (cut .cut-block .ensures .0),
         (rw (first .kept .1 .1 .1 .1 .1 .1 .0 ∙ length-set (s .args .splits .now) _ _) (second-places (s .pre .1 .1 .0) deeper), first .ensures .1),
       ),
     )
@@ -258,7 +258,7 @@ y-returns-3 t c =
     let first = c .before .before .before .before .before .before .before in
     let cut = first .before .before .before .before .before in
     let second = c .before .before .recurse-3d-z2 in (
-      tree-cut _ _ _ _ acrossY _ _ (cut .before .before .before .before .before .before .before .pre .1 .0) _ _ _ _ tt (cut .before .before .before .before .if1 .left) (pos-of-ne-zero (cut .before .before .if2 .left))
+      tree-cut _ _ _ _ _ acrossY _ _ (cut .before .before .before .before .before .before .before .pre .1 .0) _ _ _ _ tt (cut .before .before .before .before .if1 .left) (pos-of-ne-zero (cut .before .before .if2 .left))
           (cut .cut-block .ensures .0) (first .recurse-3d-z .ensures .0) (second .ensures .0),
       second .ensures .1,
     )
@@ -271,10 +271,10 @@ z-node-small t c =
     small-node _ _ _ (c .before .before .before .before .if1 .left) (entered .pre .1 .1 .0)
 
 z-returns : (t : ℕ) → z-lts.Need-returns (z-calls t) (z-at t) z.Post
-z-returns t c = (tree-end _ _ _ _ _ _ _ _ (c .if1 .taken), c .before .before .before .pre .1 .1 .1)
+z-returns t c = (tree-end _ _ _ _ _ _ _ _ _ (c .if1 .taken), c .before .before .before .pre .1 .1 .1)
 
 z-returns-2 : (t : ℕ) → z-lts.Need-returns-2 (z-calls t) (z-at t) z.Post
-z-returns-2 t c = (tree-flat _ _ _ _ _ _ _ _ tt (c .if2 .taken), c .before .before .before .before .before .pre .1 .1 .1)
+z-returns-2 t c = (tree-flat _ _ _ _ _ _ _ _ _ tt (c .if2 .taken), c .before .before .before .before .before .pre .1 .1 .1)
 
 z-cut-block-requires : (t : ℕ) → z-lts.Need-cut-block-requires (z-calls t) (z-at t) z.Post
 z-cut-block-requires t c κs =
@@ -310,7 +310,7 @@ z-recurse-3d-x-requires t c κs =
     let deeper = cut .before .before .before .before .if1 .left in (
       falls-by deeper (s .pre .0),
       (
-        first-sound (s .pre .1 .0) acrossZ tt (pos-of-ne-zero (cut .before .before .if2 .left)) _ (cut .cut-block .ensures .0),
+        first-sound _ (s .pre .1 .0) acrossZ tt (pos-of-ne-zero (cut .before .before .if2 .left)) _ (cut .cut-block .ensures .0),
         (
           rw (length-set (s .args .splits .now)) (first-places (s .pre .1 .1 .0) deeper),
           rw (cut .cut-block .ensures .1) (filled-room (s .pre .1 .0 .lies) acrossZ _ (s .pre .1 .1 .1)),
@@ -321,7 +321,7 @@ z-recurse-3d-x-requires t c κs =
 z-sub-recurse-3d-x-2 : (t : ℕ) → z-lts.Need-sub-recurse-3d-x-2 (z-calls t) (z-at t) z.Post
 z-sub-recurse-3d-x-2 t c =
     let cut = c .before .before .before .before .before .before .before in
-    left-at-most (cut .before .before .before .before .before .before .before .pre .1 .0) acrossZ tt (pos-of-ne-zero (cut .before .before .if2 .left)) _ (cut .cut-block .ensures .0)
+    left-at-most _ (cut .before .before .before .before .before .before .before .pre .1 .0) acrossZ tt (pos-of-ne-zero (cut .before .before .if2 .left)) _ (cut .cut-block .ensures .0)
 
 z-mul-recurse-3d-x-2 : (t : ℕ) → z-lts.Need-mul-recurse-3d-x-2 (z-calls t) (z-at t) z.Post
 z-mul-recurse-3d-x-2 t c = omega (arith, z-node-small t (c .before .before .before .before .before .before .before))
@@ -342,7 +342,7 @@ z-recurse-3d-x-requires-2 t c κs =
     let first = c .before .before .before .before .recurse-3d-x in (
       falls-by deeper (s .pre .0),
       (
-        second-sound (s .pre .1 .0) acrossZ tt (pos-of-ne-zero (cut .before .before .if2 .left)) _ (cut .cut-block .ensures .0),
+        second-sound _ (s .pre .1 .0) acrossZ tt (pos-of-ne-zero (cut .before .before .if2 .left)) _ (cut .cut-block .ensures .0),
         (rw (first .kept .1 .1 .1 .1 .1 .1 .0 ∙ length-set (s .args .splits .now) _ _) (second-places (s .pre .1 .1 .0) deeper), first .ensures .1),
       ),
     )
@@ -359,7 +359,7 @@ z-returns-3 t c =
     let first = c .before .before .before .before .before .before .before in
     let cut = first .before .before .before .before .before in
     let second = c .before .before .recurse-3d-x2 in (
-      tree-cut _ _ _ _ acrossZ _ _ (cut .before .before .before .before .before .before .before .pre .1 .0) _ _ _ _ tt (cut .before .before .before .before .if1 .left) (pos-of-ne-zero (cut .before .before .if2 .left))
+      tree-cut _ _ _ _ _ acrossZ _ _ (cut .before .before .before .before .before .before .before .pre .1 .0) _ _ _ _ tt (cut .before .before .before .before .if1 .left) (pos-of-ne-zero (cut .before .before .if2 .left))
           (cut .cut-block .ensures .0) (first .recurse-3d-x .ensures .0) (second .ensures .0),
       second .ensures .1,
     )
