@@ -1,1 +1,2 @@
 pub mod Merged
+pub mod Accepted
