@@ -6,3 +6,4 @@ pub mod Counts
 pub mod Splits
 pub mod FairParts
 pub mod Accepted
+pub mod NotIdle

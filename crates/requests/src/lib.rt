@@ -4,7 +4,7 @@
 //   Order   points in the order of their indices
 //   Parts   parts along the curve (1/14)
 //
-// There is no function here.
+// There is no function here, and no proof but that of some cases (proofs/PartsCases.antt).
 
 // The most points that are put in order or given parts.
 pub const TOP_POINTS: u32 = 65536;
