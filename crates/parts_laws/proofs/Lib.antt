@@ -7,3 +7,4 @@ pub mod Splits
 pub mod FairParts
 pub mod Accepted
 pub mod NotIdle
+pub mod Passing

@@ -1,2 +1,3 @@
 pub mod Merged
 pub mod Accepted
+pub mod Passing
