@@ -13,7 +13,7 @@ use borrow.Author.Tests.{lt-ltb, le-ltb, le-leb, lt-leb, ltb-true, ltb-false, le
 use Rattle.rules.specs.Sums.{pick, total, sumWhere}
 use Rattle.requests.specs.Order.{at}
 use Rattle.requests.specs.Parts.{weightAll, weightTo, heaviestOn, split, partAt, partsOf, weightIn, FairParts}
-use Rattle.halving_laws.proofs.Totals.{total-ext, total-swap, total-one, where-ext, where-none, where-mono, where-split}
+use Rattle.laws.proofs.Totals.{total-ext, total-swap, total-one, where-ext, where-none, where-mono, where-split}
 use Rattle.laws.proofs.Lists.{getD-list}
 use Rattle.parts_laws.proofs.Counts.{best, Best}
 use Rattle.parts_laws.proofs.Splits.{under-plus-on, to-at-most, to-is, weightUnder, under-at-most, under-none, on-at-most, split-enough, split-first, part-cut}

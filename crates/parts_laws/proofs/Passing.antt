@@ -16,7 +16,7 @@ use Rattle.rules.specs.Sums.{pick, total, sumWhere}
 use Rattle.rules.specs.Refusals.{topWeight}
 use Rattle.requests.specs.Order.{at, orderOf}
 use Rattle.requests.specs.Parts.{weightAll, weightTo, split, partAt, partsOf}
-use Rattle.halving_laws.proofs.Totals.{total-ext, total-mono, total-zero, total-split, total-more, total-le}
+use Rattle.laws.proofs.Totals.{total-ext, total-mono, total-zero, total-split, total-more, total-le}
 use Rattle.laws.proofs.Lists.{length-list, getD-list}
 use Rattle.parts_laws.proofs.Places.{order-places, order-has, order-below, order-rises}
 use Rattle.parts_laws.proofs.Counts.{count-is}

@@ -12,7 +12,7 @@ use borrow.Author.Tests.{lt-ltb, le-ltb, le-leb, lt-leb, ltb-true, leb-true, eq-
 use Rattle.rules.specs.Sums.{sumWhere, top}
 use Rattle.requests.specs.Order.{at}
 use Rattle.requests.specs.Parts.{weightAll, weightTo, weightOn, heaviestOn, reaches, split, IsSplit, partAt}
-use Rattle.halving_laws.proofs.Totals.{where-ext, where-all, where-none, where-mono, where-split, top-le}
+use Rattle.laws.proofs.Totals.{where-ext, where-all, where-none, where-mono, where-split, top-le}
 use Rattle.parts_laws.proofs.Counts.{least-default, least-le, least-has, Cut, cut}
 
 -- the largest is one of them

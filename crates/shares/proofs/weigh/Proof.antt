@@ -7,7 +7,7 @@ use borrow.Author.Needs.{needs}
 use Rattle.rules.specs.Sums.{total}
 use Rattle.rules.specs.Refusals.{topWeight}
 use Rattle.requests.specs.Order.{at}
-use Rattle.halving_laws.proofs.Totals.{total-more}
+use Rattle.laws.proofs.Totals.{total-more}
 use Rattle.shares.proofs.weigh.Statement.{statement}
 use Rattle.shares.proofs.weigh.Tie as tie
 
