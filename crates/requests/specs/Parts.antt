@@ -8,7 +8,8 @@ use lib.ListN.{length}
 use lib.Dec.{leb, ltb, eqb}
 use Rattle.rules.specs.Sums.{pick, total, sumWhere, top, list}
 use Rattle.rules.specs.Refusals.{Test, test, firstOf, noPoints, lengthsOff, weightOver, sliceBy}
-use Rattle.requests.specs.Order.{topPoints, at, orderOf}
+use Rattle.rules.specs.Demands.{Exactly}
+use Rattle.requests.specs.Order.{topPoints, at, orderOf, OrderList}
 
 -- WEIGHTS of all points, of those at or below an index, and of those on an index
 
@@ -103,3 +104,10 @@ pub record FairParts (n : ℕ) (ix ws parts : List ℕ) : Type 0 where
   pub below : (p : ℕ) → p < length ix → at parts p < n
   pub rising : (p q : ℕ) → p < length ix → q < length ix → at ix p ≤ at ix q → at parts p ≤ at parts q
   pub shared : (p q : ℕ) → p < length ix → q < length ix → at ix p ≡ at ix q → at parts p ≡ at parts q
+
+-- of a call: its number is exactly as its tests say, a refused call leaves the slices as they were, and any other fair parts and the order
+pub record PartsDemand (n : ℕ) (ix ws parts order : List ℕ) (after : Parted) : Type 0 where
+  pub number : Exactly (partsTests n ix ws parts order) (after .number)
+  pub untouched : 0 < after .number → (after .parts ≡ parts) × (after .order ≡ order)
+  pub fair : after .number ≡ 0 → FairParts n ix ws (after .parts)
+  pub ordered : after .number ≡ 0 → OrderList ix (after .order)
