@@ -81,11 +81,11 @@ uint32_t skarvolm_rcb_3d(uint32_t width, uint32_t height, uint32_t layers, uint3
                          size_t weights_length, uint32_t *splits, size_t splits_length, uint32_t *ids, size_t ids_length);
 
 /* Parts of points along the curve: n parts, by the points' indices and weights. For i from 1 to n - 1, split i is the smallest
- * index present such that n times the weight at or below it reaches i times the weight of all; the part of a point is the number
- * of splits strictly below its index. So parts are below n and do not fall along the curve, points that share an index share a
- * part, and n times the weight of a part is at most the weight of all and n times the heaviest weight on one index. The order is
- * the numbers of the points in order of index, equal indices by number. One weight, one part and one place of the order a point.
- * Tests 12, 4, 5, 11. */
+ * index present such that n times the weight at or below it reaches i times the weight of all; the part of a point is the
+ * number of splits strictly below its index. So parts are below n and do not fall along the curve, points that share an index
+ * share a part, and n times the weight of a part is at most the weight of all and n times the heaviest weight on one index.
+ * The order is the numbers of the points in order of index, equal indices by number. One weight, one part and one place of the
+ * order a point. Tests 12, 4, 5, 11. */
 uint32_t skarvolm_parts(uint32_t n, const uint64_t *indices, size_t indices_length, const uint64_t *weights,
                         size_t weights_length, uint32_t *parts, size_t parts_length, uint32_t *order, size_t order_length);
 
