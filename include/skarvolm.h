@@ -28,9 +28,12 @@
  *
  *     int main(void) {
  *         uint64_t index, weights[16];
+ *         double focal = 24, stop = 2.8;
  *         uint32_t splits[3], ids[16];
  *         if (skarvolm_encode_2d(127, 127, 7, &index) == 0)
  *             printf("cell (127, 127) at order 7 has index %llu\n", (unsigned long long)index);
+ *         if (skarvolm_index_2d_in(10, 400, 1, 32, &focal, 1, &stop, 1, 12, &index, 1) == 0)
+ *             printf("24 mm at f/2.8, of 10 to 400 mm and f/1 to f/32, has index %llu\n", (unsigned long long)index);
  *         for (int i = 0; i < 16; i++)
  *             weights[i] = 1;
  *         if (skarvolm_rcb_2d(4, 4, 2, weights, 16, splits, 3, ids, 16) == 0)
@@ -70,6 +73,14 @@ uint32_t skarvolm_index_2d(const double *xs, size_t xs_length, const double *ys,
                            uint64_t *indices, size_t indices_length);
 uint32_t skarvolm_index_3d(const double *xs, size_t xs_length, const double *ys, size_t ys_length, const double *zs,
                            size_t zs_length, uint32_t order, uint64_t *indices, size_t indices_length);
+
+/* The same over a box that is given: on the axes from low to high, so that an index stays where points are added. Tests 1, 4,
+ * 5; then 6, 8, 7 of low and high, and 6, 8 of the points, each over all axes before the next. */
+uint32_t skarvolm_index_2d_in(double xlow, double xhigh, double ylow, double yhigh, const double *xs, size_t xs_length,
+                              const double *ys, size_t ys_length, uint32_t order, uint64_t *indices, size_t indices_length);
+uint32_t skarvolm_index_3d_in(double xlow, double xhigh, double ylow, double yhigh, double zlow, double zhigh,
+                              const double *xs, size_t xs_length, const double *ys, size_t ys_length, const double *zs,
+                              size_t zs_length, uint32_t order, uint64_t *indices, size_t indices_length);
 
 /* Halves a grid depth times: across y first, then x, y, x in 2D, or z, x, y in 3D. Cell (x, y) stands at x + width * y,
  * (x, y, z) at x + width * (y + height * z). One weight and one id a cell; 2^depth - 1 splits, the root's first, those of the

@@ -21,6 +21,8 @@ struct side {
     uint32_t (*index_2d)(const double *, size_t, const double *, size_t, uint32_t, uint64_t *, size_t);
     uint32_t (*index_3d)(const double *, size_t, const double *, size_t, const double *, size_t, uint32_t, uint64_t *,
                          size_t);
+    uint32_t (*index_2d_in)(double, double, double, double, const double *, size_t, const double *, size_t, uint32_t,
+                            uint64_t *, size_t);
     uint32_t (*rcb_2d)(uint32_t, uint32_t, uint32_t, const uint64_t *, size_t, uint32_t *, size_t, uint32_t *, size_t);
     uint32_t (*rcb_3d)(uint32_t, uint32_t, uint32_t, uint32_t, const uint64_t *, size_t, uint32_t *, size_t, uint32_t *,
                        size_t);
@@ -28,19 +30,19 @@ struct side {
 };
 
 static const struct side library = {
-    skarvolm_deposit, skarvolm_encode_2d, skarvolm_encode_3d, skarvolm_decode_2d, skarvolm_decode_3d,
-    skarvolm_cell,    skarvolm_index_2d,  skarvolm_index_3d,  skarvolm_rcb_2d,    skarvolm_rcb_3d,
-    skarvolm_parts,
+    skarvolm_deposit, skarvolm_encode_2d, skarvolm_encode_3d, skarvolm_decode_2d,   skarvolm_decode_3d,
+    skarvolm_cell,    skarvolm_index_2d,  skarvolm_index_3d,  skarvolm_index_2d_in, skarvolm_rcb_2d,
+    skarvolm_rcb_3d,  skarvolm_parts,
 };
 static const struct side plain = {
-    plain_deposit, plain_encode_2d, plain_encode_3d, plain_decode_2d, plain_decode_3d,
-    plain_cell,    plain_index_2d,  plain_index_3d,  plain_rcb_2d,    plain_rcb_3d,
-    plain_parts,
+    plain_deposit, plain_encode_2d, plain_encode_3d, plain_decode_2d,   plain_decode_3d,
+    plain_cell,    plain_index_2d,  plain_index_3d,  plain_index_2d_in, plain_rcb_2d,
+    plain_rcb_3d,  plain_parts,
 };
 static const struct side empty = {
-    empty_deposit, empty_encode_2d, empty_encode_3d, empty_decode_2d, empty_decode_3d,
-    empty_cell,    empty_index_2d,  empty_index_3d,  empty_rcb_2d,    empty_rcb_3d,
-    empty_parts,
+    empty_deposit, empty_encode_2d, empty_encode_3d, empty_decode_2d,   empty_decode_3d,
+    empty_cell,    empty_index_2d,  empty_index_3d,  empty_index_2d_in, empty_rcb_2d,
+    empty_rcb_3d,  empty_parts,
 };
 
 struct operation {
@@ -140,6 +142,12 @@ static void run_index_2d(const struct side *s, const struct operation *o, uint32
         answers.refused |= s->index_2d(values[0], POINTS, values[1], POINTS, o->order, answers.wide[0], POINTS);
 }
 
+static void run_index_2d_in(const struct side *s, const struct operation *o, uint32_t calls) {
+    for (uint32_t i = 0; i < calls; i++)
+        answers.refused |= s->index_2d_in(-50, 50, -50, 50, values[0], POINTS, values[1], POINTS, o->order, answers.wide[0],
+                                          POINTS);
+}
+
 static void run_index_3d(const struct side *s, const struct operation *o, uint32_t calls) {
     for (uint32_t i = 0; i < calls; i++)
         answers.refused |=
@@ -185,6 +193,7 @@ static const struct operation operations[] = {
     {"cell-12", 0, INPUTS, 1, 12, {0}, run_cell, "cell at order 12"},
     {"index_2d-12", 0, 1, POINTS, 12, {0}, run_index_2d, "index_2d at order 12, a point of 500"},
     {"index_2d-30", 0, 1, POINTS, 30, {0}, run_index_2d, "index_2d at order 30, a point of 500"},
+    {"index_2d_in-12", 0, 1, POINTS, 12, {0}, run_index_2d_in, "index_2d_in at order 12, a point of 500"},
     {"index_3d-12", 0, 1, POINTS, 12, {0}, run_index_3d, "index_3d at order 12, a point of 500"},
     {"index_3d-21", 0, 1, POINTS, 21, {0}, run_index_3d, "index_3d at order 21, a point of 500"},
     {"rcb_2d-32", 0, 1, 1, 8, {32, 32, 1}, run_rcb_2d, "rcb_2d of 32 by 32 at depth 8"},

@@ -16,6 +16,11 @@ static uint32_t empty_index_3d(const double *xs, size_t xs_length, const double 
                                size_t zs_length, uint32_t order, uint64_t *indices, size_t indices_length) {
     return 0;
 }
+static uint32_t empty_index_2d_in(double xlow, double xhigh, double ylow, double yhigh, const double *xs, size_t xs_length,
+                                  const double *ys, size_t ys_length, uint32_t order, uint64_t *indices,
+                                  size_t indices_length) {
+    return 0;
+}
 static uint32_t empty_rcb_2d(uint32_t width, uint32_t height, uint32_t depth, const uint64_t *weights, size_t weights_length,
                              uint32_t *splits, size_t splits_length, uint32_t *ids, size_t ids_length) {
     return 0;

@@ -206,6 +206,32 @@ uint32_t plain_index_3d(const double *xs, size_t xs_length, const double *ys, si
     return 0;
 }
 
+uint32_t plain_index_2d_in(double xlow, double xhigh, double ylow, double yhigh, const double *xs, size_t xs_length,
+                           const double *ys, size_t ys_length, uint32_t order, uint64_t *indices, size_t indices_length) {
+    if (order > 30)
+        return 1;
+    if (xs_length == 0)
+        return 4;
+    if (ys_length != xs_length || indices_length != xs_length)
+        return 5;
+    if (unfit(xlow) || unfit(xhigh) || unfit(ylow) || unfit(yhigh))
+        return 6;
+    if (xlow > xhigh || ylow > yhigh)
+        return 8;
+    if (thin(xhigh - xlow) || thin(yhigh - ylow))
+        return 7;
+    for (size_t i = 0; i < xs_length; i++)
+        if (unfit(xs[i]) || unfit(ys[i]))
+            return 6;
+    for (size_t i = 0; i < xs_length; i++)
+        if (xs[i] < xlow || xs[i] > xhigh || ys[i] < ylow || ys[i] > yhigh)
+            return 8;
+    struct axis x = make_axis(xlow, xhigh, order), y = make_axis(ylow, yhigh, order);
+    for (size_t i = 0; i < xs_length; i++)
+        indices[i] = walk_2d(cell_on(x, xs[i]), cell_on(y, ys[i]), order);
+    return 0;
+}
+
 /* HALVINGS */
 
 enum { NOT_CUT = 0xffffffff };

@@ -12,6 +12,8 @@ uint32_t plain_index_2d(const double *xs, size_t xs_length, const double *ys, si
                         uint64_t *indices, size_t indices_length);
 uint32_t plain_index_3d(const double *xs, size_t xs_length, const double *ys, size_t ys_length, const double *zs,
                         size_t zs_length, uint32_t order, uint64_t *indices, size_t indices_length);
+uint32_t plain_index_2d_in(double xlow, double xhigh, double ylow, double yhigh, const double *xs, size_t xs_length,
+                           const double *ys, size_t ys_length, uint32_t order, uint64_t *indices, size_t indices_length);
 uint32_t plain_rcb_2d(uint32_t width, uint32_t height, uint32_t depth, const uint64_t *weights, size_t weights_length,
                       uint32_t *splits, size_t splits_length, uint32_t *ids, size_t ids_length);
 uint32_t plain_rcb_3d(uint32_t width, uint32_t height, uint32_t layers, uint32_t depth, const uint64_t *weights,

@@ -195,4 +195,69 @@ impl HilbertCurve {
     ) -> Result<Vec<u32>, Refused> {
         self.partition(partition, &self.index_3d(xs, ys, zs)?, weights)
     }
+
+    /// The index of each point on axes that are given, each as its low and high, so that an index stays where points are added.
+    /// Refuses by [`Refused::Order`], [`Refused::NoPoints`], [`Refused::Lengths`]; then by [`Refused::Value`],
+    /// [`Refused::Outside`], [`Refused::Thin`] for an axis, and by [`Refused::Value`], [`Refused::Outside`] for a point.
+    ///
+    /// ```
+    /// # use skarvolm::HilbertCurve;
+    /// let curve = HilbertCurve { order: 1, ..Default::default() };
+    /// assert_eq!(curve.index_2d_in((0.0, 4.0), (0.0, 4.0), &[3.0], &[1.0]), Ok(vec![3]));
+    /// assert_eq!(curve.index_2d_in((0.0, 4.0), (0.0, 4.0), &[3.0, 0.0], &[1.0, 4.0]), Ok(vec![3, 1]));
+    /// ```
+    pub fn index_2d_in(self, x: (f64, f64), y: (f64, f64), xs: &[f64], ys: &[f64]) -> Result<Vec<u64>, Refused> {
+        let mut indices = vec![0; xs.len()];
+        // SAFETY: each pointer and length is a live slice's, and `indices`, alone written, overlaps none of the others.
+        let number = unsafe {
+            sys::skarvolm_index_2d_in(
+                x.0,
+                x.1,
+                y.0,
+                y.1,
+                xs.as_ptr(),
+                xs.len(),
+                ys.as_ptr(),
+                ys.len(),
+                self.order,
+                indices.as_mut_ptr(),
+                indices.len(),
+            )
+        };
+        answered(number, indices)
+    }
+
+    /// The index of each point on axes that are given, as [`HilbertCurve::index_2d_in`] gives it.
+    pub fn index_3d_in(
+        self,
+        x: (f64, f64),
+        y: (f64, f64),
+        z: (f64, f64),
+        xs: &[f64],
+        ys: &[f64],
+        zs: &[f64],
+    ) -> Result<Vec<u64>, Refused> {
+        let mut indices = vec![0; xs.len()];
+        // SAFETY: each pointer and length is a live slice's, and `indices`, alone written, overlaps none of the others.
+        let number = unsafe {
+            sys::skarvolm_index_3d_in(
+                x.0,
+                x.1,
+                y.0,
+                y.1,
+                z.0,
+                z.1,
+                xs.as_ptr(),
+                xs.len(),
+                ys.as_ptr(),
+                ys.len(),
+                zs.as_ptr(),
+                zs.len(),
+                self.order,
+                indices.as_mut_ptr(),
+                indices.len(),
+            )
+        };
+        answered(number, indices)
+    }
 }

@@ -27,6 +27,36 @@ extern "C" {
         indices: *mut u64,
         indices_length: usize,
     ) -> u32;
+    pub fn skarvolm_index_2d_in(
+        xlow: f64,
+        xhigh: f64,
+        ylow: f64,
+        yhigh: f64,
+        xs: *const f64,
+        xs_length: usize,
+        ys: *const f64,
+        ys_length: usize,
+        order: u32,
+        indices: *mut u64,
+        indices_length: usize,
+    ) -> u32;
+    pub fn skarvolm_index_3d_in(
+        xlow: f64,
+        xhigh: f64,
+        ylow: f64,
+        yhigh: f64,
+        zlow: f64,
+        zhigh: f64,
+        xs: *const f64,
+        xs_length: usize,
+        ys: *const f64,
+        ys_length: usize,
+        zs: *const f64,
+        zs_length: usize,
+        order: u32,
+        indices: *mut u64,
+        indices_length: usize,
+    ) -> u32;
     pub fn skarvolm_rcb_2d(
         width: u32,
         height: u32,

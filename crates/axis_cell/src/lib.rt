@@ -22,7 +22,7 @@ use rules::REFUSED_OUTSIDE;
 use rules::REFUSED_VALUE;
 
 // The low end of an axis.
-fn low_of(axis: Axis) -> f64
+pub fn low_of(axis: Axis) -> f64
     ensures { λ r. ⌜ r ≡ lowOf axis ⌝ }
 {
     match axis {
@@ -32,7 +32,7 @@ fn low_of(axis: Axis) -> f64
 }
 
 // The high end of an axis.
-fn high_of(axis: Axis) -> f64
+pub fn high_of(axis: Axis) -> f64
     ensures { λ r. ⌜ r ≡ highOf axis ⌝ }
 {
     match axis {
@@ -63,7 +63,7 @@ fn same_bits(f: f64, g: f64) -> bool
 }
 
 // Whether making an axis record anew is refused or gives another.
-fn made_up(axis: Axis) -> bool
+pub fn made_up(axis: Axis) -> bool
     ensures { λ r. ⌜ r ≡ madeUp axis ⌝ }
 {
     let answer = make_axis(low_of(axis), high_of(axis), order_of(axis));

@@ -34,7 +34,7 @@ ends-of low high order = go (eq (width low high) nought)
     go false = (refl, refl, refl)
 
 -- and its factor is an f64
-in-format : (low high : Float) (order : ℕ) → firstOf (axisTests low high order) ≡ 0 → T (inFormat (axisOf low high order))
+pub in-format : (low high : Float) (order : ℕ) → firstOf (axisTests low high order) ≡ 0 → T (inFormat (axisOf low high order))
 unfolding axisOf
 in-format low high order e = go (eq (width low high) nought) refl
   where

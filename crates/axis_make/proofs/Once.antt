@@ -3,6 +3,8 @@ use mathlib.Core.Path.{sym, _∙_}
 use Rattle.laws.proofs.Only.{Only}
 use Rattle.axis_make.proofs.unfit.Kinds as unfit-kinds
 use Rattle.axis_make.proofs.unfit.Reads as unfit-reads
+use Rattle.axis_make.proofs.thin.Kinds as thin-kinds
+use Rattle.axis_make.proofs.thin.Reads as thin-reads
 use Rattle.axis_make.proofs.make_axis.Kinds as make-axis-kinds
 use Rattle.axis_make.proofs.make_axis.Reads as make-axis-reads
 use Rattle.axis_make.proofs.make_axis_default.Kinds as make-axis-default-kinds
@@ -12,6 +14,9 @@ use Rattle.axis_make.proofs.axis_refusal.Reads as axis-refusal-reads
 
 pub unfit-only : Only unfit-kinds.ps unfit-kinds.r unfit-reads.Post
 unfit-only κs a y z e f p q = p ∙ sym q
+
+pub thin-only : Only thin-kinds.ps thin-kinds.r thin-reads.Post
+thin-only κs a y z e f p q = p ∙ sym q
 
 pub make-axis-only : Only make-axis-kinds.ps make-axis-kinds.r make-axis-reads.Post
 make-axis-only κs a y z e f p q = p ∙ sym q

@@ -37,7 +37,7 @@ pub fn unfit(value: f64) -> bool
 }
 
 // Whether an axis from low to high is thin.
-fn thin(low: f64, high: f64) -> bool
+pub fn thin(low: f64, high: f64) -> bool
     ensures { λ r. ⌜ r ≡ axisThin low high ⌝ }
 {
     let width = high - low;

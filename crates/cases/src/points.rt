@@ -1,11 +1,13 @@
 // Calls that index all points: `order / xs / ys / indices` or `order / xs / ys / zs / indices`, where the last part is what the
-// index slice holds before; without an order, the call that needs none. The points of a line are up to 240 numbers.
+// index slice holds before; without an order, the call that needs none. On axes that are given, their low and high stand behind the order.
+// The points of a line are up to 240 numbers.
 use crate::calls::small;
 use crate::floats::float;
 use crate::sheet::FIRST;
 use crate::sheet::least;
 use crate::sheet::place;
 use crate::sheet::put;
+use rules::Extent;
 ghost use Prim.Native.Nat.{_<_};
 
 // Where the head of a sheet says where the parts of a request start.
@@ -31,10 +33,21 @@ fn floats_at<'a>(points: &'a [f64], sheet: &[u64; 331776], said: usize) -> &'a [
     &points[start..end]
 }
 
+// The low and high of axis i that a request gives, behind its order.
+fn side(points: &[f64; 256], i: usize) -> Extent
+    requires { ⌜ i < 3 ⌝ }
+{
+    Extent {
+        low: points[17 + 2 * i],
+        high: points[18 + 2 * i],
+    }
+}
+
 // The call of a request.
 fn indices_of(
     request: u64,
     order: u32,
+    points: &[f64; 256],
     xs: &[f64],
     ys: &[f64],
     zs: &[f64],
@@ -44,7 +57,18 @@ fn indices_of(
         1240 => knots::index_2d_default(xs, ys, indices),
         1241 => knots::index_2d(xs, ys, order, indices),
         1350 => knots::index_3d_default(xs, ys, zs, indices),
-        _ => knots::index_3d(xs, ys, zs, order, indices),
+        1351 => knots::index_3d(xs, ys, zs, order, indices),
+        1445 => knots::index_2d_in(xs, ys, side(points, 0), side(points, 1), order, indices),
+        _ => knots::index_3d_in(
+            xs,
+            ys,
+            zs,
+            side(points, 0),
+            side(points, 1),
+            side(points, 2),
+            order,
+            indices,
+        ),
     }
 }
 
@@ -52,6 +76,7 @@ fn indices_of(
 fn index_into(
     request: u64,
     order: u32,
+    points: &[f64; 256],
     xs: &[f64],
     ys: &[f64],
     zs: &[f64],
@@ -61,7 +86,7 @@ fn index_into(
 ) -> u32 {
     let to = least(end, sheet.len());
     let from = least(start, to);
-    indices_of(request, order, xs, ys, zs, &mut sheet[from..to])
+    indices_of(request, order, points, xs, ys, zs, &mut sheet[from..to])
 }
 
 // Indexes the points of a sheet, into the numbers from `start` to before `end`.
@@ -76,7 +101,7 @@ fn index_points(
     let xs = floats_at(points, sheet, XS);
     let ys = floats_at(points, sheet, YS);
     let zs = floats_at(points, sheet, ZS);
-    index_into(request, order, xs, ys, zs, sheet, start, end)
+    index_into(request, order, points, xs, ys, zs, sheet, start, end)
 }
 
 // Answers by the number and the numbers from `start` to before `end`.
@@ -92,7 +117,7 @@ fn put_answer(number: u32, start: usize, end: usize, sheet: &mut [u64; 331776]) 
     }
 }
 
-// index_2d and index_3d; the head of the sheet says at `last` where the indices start. No answer where there is no room for the points.
+// index_2d, index_3d, index_2d_in and index_3d_in; the head of the sheet says at `last` where the indices start. No answer where there is no room for the points.
 pub(crate) fn index(request: u64, last: usize, sheet: &mut [u64; 331776])
     requires { ⌜ last < 15 ⌝ }
 {

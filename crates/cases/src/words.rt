@@ -1,4 +1,5 @@
 // The words of a line.
+use console::words::same;
 use text::Token;
 ghost use Prim.Native.Nat.{_≤_, _<_};
 ghost use lib.ListN.{length};
@@ -25,21 +26,6 @@ pub(crate) fn end_of(line: &[u8], at: usize) -> usize
         return line.len();
     };
     end
-}
-
-// Whether two words are the same.
-fn same(a: &[u8], b: &[u8]) -> bool {
-    if a.len() != b.len() {
-        return false;
-    }
-    let mut i: usize = 0;
-    while i < a.len() {
-        if a[i] != b[i] {
-            return false;
-        }
-        i += 1;
-    }
-    true
 }
 
 // Which word of a list a word is, from 1; 0 where it is none of them.

@@ -1,180 +1,267 @@
-// What is wrong with a file or a command, on the descriptor that errors go to: the file, line and column, what was found and what
-// was wanted, with the number of refusal where there is one.
+// What is wrong with a file, on standard error: the file, line and column, what was found and what was wanted, with the number of
+// refusal where there is one.
+//
+// The faults of a file are kept until it has been read, the first 20 of them, in an array of 61 numbers: how many there are, then for
+// each of them what it is and the first byte of what was found with the place after it.
+use crate::lines::fields_on;
+use crate::lines::part;
 use crate::meanings::meaning;
 use crate::words::word;
-ghost use mathlib.Core.Path.{_≡_};
+use libc::STDERR_FILENO;
 
-// A fault in a file: what it is, with the number of refusal where there is one, the first byte of what was found and the place
-// after it.
-pub struct Fault {
-    pub what: u8,
-    pub number: u32,
-    pub start: usize,
-    pub end: usize,
-}
+// How many faults are kept and said.
+const MOST: usize = 20;
 
-pub const SOUND: u8 = 0;
+pub const NO_DECIMAL: usize = 1;
 
-pub const NO_DECIMAL: u8 = 1;
+pub const LONG: usize = 2;
 
-pub const LONG: u8 = 2;
+pub const DEEP: usize = 3;
 
-pub const DEEP: u8 = 3;
+pub const HIGH: usize = 4;
 
-pub const HIGH: u8 = 4;
+pub const MANY: usize = 5;
 
-pub const NOT_FINITE: u8 = 5;
+pub const NO_WHOLE: usize = 6;
 
-pub const COLUMNS: u8 = 6;
+pub const LAYER: usize = 7;
 
-pub const RAGGED: u8 = 7;
+pub const NOTHING: usize = 8;
 
-pub const MANY: u8 = 8;
+pub const EMPTY: usize = 9;
 
-pub const NO_WHOLE: u8 = 9;
+// Of a line as a whole, which starts at the first place. The second is that of the line that it is held against (`RAGGED`), or the
+// number of a column that it has not (`MISSING`).
+pub const COLUMNS: usize = 10;
 
-pub const ROW: u8 = 10;
+pub const RAGGED: usize = 11;
 
-pub const LAYER: u8 = 11;
+pub const MISSING: usize = 12;
 
-pub const EMPTY: u8 = 12;
+// A number of refusal is this more.
+pub const REFUSED: usize = 100;
 
-pub const REFUSED: u8 = 13;
-
-pub fn no_fault() -> Fault
-    ensures { λ r. ⌜ r .what ≡ 0 ⌝ }
+// Keeps a fault, while there is room.
+pub fn note(faults: &mut [usize; 61], what: usize, start: usize, end: usize)
+    ensures { λ _. ⊤ₛ }
 {
-    fault_at(SOUND, 0, 0)
-}
-
-// A fault that has no number.
-pub fn fault_at(what: u8, start: usize, end: usize) -> Fault
-    ensures { λ r. ⌜ (r .what ≡ what) × (r .start ≡ start) × (r .end ≡ end) ⌝ }
-{
-    Fault {
-        what,
-        number: 0,
-        start,
-        end,
+    let n = faults[0];
+    if MOST < n {
+        return;
+    }
+    faults[0] = n + 1;
+    if n < MOST {
+        faults[3 * n + 1] = what;
+        faults[3 * n + 2] = start;
+        faults[3 * n + 3] = end;
     }
 }
 
-// A fault that a call refuses by a number.
-pub fn refusal_at(number: u32, start: usize, end: usize) -> Fault
-    ensures { λ r. ⌜ (r .number ≡ number) × (r .start ≡ start) × (r .end ≡ end) ⌝ }
+// Whether there are more faults than are kept.
+pub fn full(faults: &[usize; 61]) -> bool
+    ensures { λ _. ⊤ₛ }
 {
-    Fault {
-        what: REFUSED,
-        number,
-        start,
-        end,
+    MOST < faults[0]
+}
+
+// Writes what a text of this program says.
+pub fn write(what: &[u8])
+    ensures { λ _. ⊤ₛ }
+{
+    io::write_all(STDERR_FILENO, what);
+}
+
+pub fn write_number(n: usize)
+    ensures { λ _. ⊤ₛ }
+{
+    io::print_decimal(STDERR_FILENO, n as u64);
+}
+
+// Writes a byte of a file so that it can be seen.
+fn write_byte(b: u8) {
+    if b < 32 {
+        write(b"\\x");
+        io::print_hex(STDERR_FILENO, b as u64, 2);
+        return;
     }
+    if 126 < b {
+        write(b"\\x");
+        io::print_hex(STDERR_FILENO, b as u64, 2);
+        return;
+    }
+    write(&[b]);
+}
+
+// Writes at most 40 bytes of a file in quotes.
+pub fn quote(what: &[u8])
+    ensures { λ _. ⊤ₛ }
+{
+    write(b"'");
+    for i in 0..what.len() {
+        if i < 40 {
+            write_byte(what[i]);
+        }
+    }
+    if 40 < what.len() {
+        write(b"..");
+    }
+    write(b"'");
+}
+
+// Writes what was found.
+fn found(what: &[u8]) {
+    write(b"found ");
+    if what.len() == 0 {
+        write(b"nothing");
+        return;
+    }
+    quote(what);
 }
 
 // A number of refusal and what it means.
-fn refusal(errors: i32, number: u32) {
-    io::write_all(errors, b"refusal ");
-    io::print_decimal(errors, number as u64);
-    io::write_all(errors, b": ");
-    meaning(errors, number);
+fn refusal(number: u32) {
+    write(b"refusal ");
+    write_number(number as usize);
+    write(b": ");
+    meaning(STDERR_FILENO, number);
 }
 
 // Writes the line of a fault in the table of what was wanted.
-fn write_wanted(errors: i32, what: u8, texts: &[u8]) {
-    io::write_all(errors, word(texts, what as usize));
+fn write_wanted(what: usize, texts: &[u8]) {
+    write(b"wanted ");
+    write(word(texts, what));
 }
 
-// What was wanted, with the refusal where there is one. The line of a fault in the table is its number.
-fn wanted(errors: i32, what: u8, number: u32) {
+// What was wanted, or the refusal. The line of a fault in the table is its number.
+fn wanted(what: usize) {
+    if REFUSED <= what {
+        if what < 4294967296 {
+            refusal((what - REFUSED) as u32);
+            return;
+        }
+    }
     write_wanted(
-        errors,
         what,
         b"
-wanted a decimal such as 23.98, -1 or 2.4e1
-wanted a decimal of at most 19 digits
-wanted at most 44 places behind the point
-wanted at most 22 zeros behind the digits
-wanted a decimal; 
-wanted 2 or 3 numbers on a line
-wanted as many numbers on each line as on the first
-wanted at most 65,536 of them
-wanted a whole number of at most 64 bits
-wanted as many weights on each line as on the first
-wanted as many lines in each layer as in the first
-wanted at least one number
+a decimal such as 23.98, -1 or 2.4e1
+a decimal of at most 19 digits
+at most 44 places behind the point
+at most 22 zeros behind the digits
+at most 65,536 of them
+a whole number of at most 64 bits
+as many lines in each layer as in the first
+at least one line with numbers
+a number
 ",
     );
-    if number != rules::ANSWERED {
-        refusal(errors, number);
-    }
 }
 
-// Writes a word in quotes, of which the last is given.
-fn quoted(errors: i32, word: &[u8], last: &[u8]) {
-    io::write_all(errors, b"'");
-    io::write_all(errors, word);
-    io::write_all(errors, last);
-}
-
-// At most 40 bytes of what was found from `start` to before `end`.
-fn found(errors: i32, text: &[u8], start: usize, end: usize) {
-    if end <= start {
-        io::write_all(errors, b"nothing more");
-        return;
-    }
-    if text.len() < end {
-        return;
-    }
-    if end - start <= 40 {
-        quoted(errors, &text[start..end], b"'");
-        return;
-    }
-    quoted(errors, &text[start..start + 40], b"..'");
-}
-
-fn begin(errors: i32, path: &[u8]) {
-    io::write_all(errors, b"skarvolm: ");
-    io::write_all(errors, path);
+// Begins a message about a file.
+pub fn begin(path: &[u8])
+    ensures { λ _. ⊤ₛ }
+{
+    write(b"skarvolm: ");
+    write(path);
+    write(b":");
 }
 
 // The line and column of a byte, behind the file.
-fn place(errors: i32, text: &[u8], at: usize) {
+fn place(text: &[u8], at: usize) {
     let here = text::place_at(text, at);
-    io::write_all(errors, b":");
-    io::print_decimal(errors, here.line as u64);
-    io::write_all(errors, b":");
-    io::print_decimal(errors, here.column as u64);
+    write_number(here.line);
+    write(b":");
+    write_number(here.column);
+    write(b": ");
+}
+
+// How many fields a line has.
+fn count_of(text: &[u8], at: usize, separator: u8) {
+    let here = text::place_at(text, at);
+    write(b"line ");
+    write_number(here.line);
+    write(b" has ");
+    write_number(fields_on(text, at, separator));
+}
+
+// What a line as a whole has, and what was wanted of it.
+fn of_line(text: &[u8], separator: u8, what: usize, start: usize, end: usize) {
+    count_of(text, start, separator);
+    match what {
+        COLUMNS => write(b" numbers, wanted 2 or 3; 'columns' chooses among more"),
+        RAGGED => {
+            write(b" numbers, ");
+            count_of(text, end, separator);
+        }
+        _ => {
+            write(b" fields, wanted a number in column ");
+            write_number(end);
+        }
+    }
+}
+
+// What was found from `start` to before `end`, and what was wanted there.
+fn of_field(text: &[u8], what: usize, start: usize, end: usize) {
+    found(part(text, start, end));
+    write(b", ");
+    wanted(what);
 }
 
 // Says where a file is at fault, and how.
-pub fn say(errors: i32, path: &[u8], text: &[u8], f: Fault)
+fn say(path: &[u8], text: &[u8], separator: u8, what: usize, start: usize, end: usize) {
+    begin(path);
+    place(text, start);
+    match what {
+        COLUMNS | RAGGED | MISSING => of_line(text, separator, what, start, end),
+        _ => of_field(text, what, start, end),
+    }
+    write(b"\n");
+}
+
+// Says all faults that were kept, and whether there are more.
+pub fn say_all(path: &[u8], text: &[u8], separator: u8, faults: &[usize; 61])
     ensures { λ _. ⊤ₛ }
 {
-    begin(errors, path);
-    place(errors, text, f.start);
-    io::write_all(errors, b": found ");
-    found(errors, text, f.start, f.end);
-    io::write_all(errors, b", ");
-    wanted(errors, f.what, f.number);
-    io::write_all(errors, b"\n");
+    let n = faults[0];
+    for i in 0..20usize {
+        if i < n {
+            say(
+                path,
+                text,
+                separator,
+                faults[3 * i + 1],
+                faults[3 * i + 2],
+                faults[3 * i + 3],
+            );
+        }
+    }
+    if MOST < n {
+        of(path, b"more is wrong behind these");
+    }
 }
 
 // Says what is wrong with a file as a whole, or with a word of the command.
-pub fn of(errors: i32, path: &[u8], what: &[u8])
+pub fn of(path: &[u8], what: &[u8])
     ensures { λ _. ⊤ₛ }
 {
-    begin(errors, path);
-    io::write_all(errors, b": ");
-    io::write_all(errors, what);
-    io::write_all(errors, b"\n");
+    begin(path);
+    write(b" ");
+    write(what);
+    write(b"\n");
+}
+
+// Ends a message with a number of refusal.
+pub fn end_refused(number: u32)
+    ensures { λ _. ⊤ₛ }
+{
+    write(b" ");
+    refusal(number);
+    write(b"\n");
 }
 
 // Says that a call was refused.
-pub fn refused(errors: i32, path: &[u8], number: u32)
+pub fn refused(path: &[u8], number: u32)
     ensures { λ _. ⊤ₛ }
 {
-    begin(errors, path);
-    io::write_all(errors, b": ");
-    refusal(errors, number);
-    io::write_all(errors, b"\n");
+    begin(path);
+    end_refused(number);
 }

@@ -49,13 +49,17 @@ pub fn meaning(fd: i32, number: u32)
     }
 }
 
-// Writes a line for each number, and what it means.
-pub fn numbers(fd: i32)
+// Writes a line for each number, and what it means; whether all could be written.
+pub fn numbers(fd: i32) -> bool
     ensures { λ _. ⊤ₛ }
 {
+    let mut written = true;
     for number in 0..256u32 {
         if write_text(fd, number, true) {
-            io::write_all(fd, b"\n");
+            if !io::write_all(fd, b"\n") {
+                written = false;
+            }
         }
     }
+    written
 }

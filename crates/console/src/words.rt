@@ -5,12 +5,6 @@ ghost use lib.Dec.{T};
 ghost use Prim.Native.Nat.{_≤_};
 ghost use lib.ListN.{length};
 
-// A number in the place of a word, or none.
-pub enum Asked {
-    Is(u32),
-    None,
-}
-
 // Where word `i` starts, or the end of the bytes where there are fewer.
 fn start_of(line: &[u8], i: usize) -> usize
     ensures { λ r. ⌜ r ≤ length (now (line .entry)) ⌝ }
@@ -112,18 +106,18 @@ pub fn place(line: &[u8], i: usize, among: &[u8]) -> usize
     k
 }
 
-// The number that word `i` is.
-pub fn number(line: &[u8], i: usize) -> Asked
+// The number that a word is; the largest, which every call refuses, where it is none that fits.
+pub fn number_of(word: &[u8]) -> u32
     ensures { λ _. ⊤ₛ }
 {
-    let met = wholes::whole_of(word(line, i));
+    let met = wholes::whole_of(word);
     let wholes::Whole::Value(n) = met else {
-        return Asked::None;
+        return 4294967295;
     };
     if n <= 4294967295 {
-        return Asked::Is(n as u32);
+        return n as u32;
     }
-    Asked::None
+    4294967295
 }
 
 // Puts a byte at `at`, where there is room; the place after it.

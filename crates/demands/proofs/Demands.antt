@@ -8,6 +8,7 @@ use Rattle.rules.specs.Curve.{encode2, encode3, decode2, decode3}
 use Rattle.rules.specs.Axis.{makeAxis, madeUp, lowOf, highOf, cellOf}
 use Rattle.rules.specs.Knots.{index2Tests, index3Tests, indexAll2, indexAll3}
 use Rattle.rules.specs.Halving.{Halving, halvingTests, halve}
+use Rattle.knots_given.specs.Given.{questions, askedOf, onTests, on2Tests, on3Tests, indexOn2, indexOn3}
 use Rattle.rules.specs.Demands.{Exactly, DecodeEncode2, EncodeDecode2, DecodeEncode3, EncodeDecode3, Demand3In2D, Demand3In3D}
 use Rattle.rules.specs.declared.Axis.{Axis}
 use Rattle.rules.specs.declared.Axis.the-variants.{Flat}
@@ -55,6 +56,19 @@ pub demand-1-index-3d : (xs ys zs : List Float) (order : ℕ) (before : List ℕ
     × (0 < indexAll3 xs ys zs order before .number → indexAll3 xs ys zs order before .indices ≡ before)
 unfolding indexAll3 indexTests
 demand-1-index-3d xs ys zs order before = (exactly (index3Tests xs ys zs order before) tt, untouched _ _ before)
+
+-- on axes that are given, and so on those from low to high
+pub demand-1-index-2d-on : (xs ys : List Float) (xaxis yaxis : Axis) (order : ℕ) (before : List ℕ)
+    → Exactly (on2Tests xs ys xaxis yaxis order before) (indexOn2 xs ys xaxis yaxis order before .number)
+    × (0 < indexOn2 xs ys xaxis yaxis order before .number → indexOn2 xs ys xaxis yaxis order before .indices ≡ before)
+unfolding indexOn2 onTests questions askedOf
+demand-1-index-2d-on xs ys xaxis yaxis order before = (exactly (on2Tests xs ys xaxis yaxis order before) tt, untouched _ _ before)
+
+pub demand-1-index-3d-on : (xs ys zs : List Float) (xaxis yaxis zaxis : Axis) (order : ℕ) (before : List ℕ)
+    → Exactly (on3Tests xs ys zs xaxis yaxis zaxis order before) (indexOn3 xs ys zs xaxis yaxis zaxis order before .number)
+    × (0 < indexOn3 xs ys zs xaxis yaxis zaxis order before .number → indexOn3 xs ys zs xaxis yaxis zaxis order before .indices ≡ before)
+unfolding indexOn3 onTests questions askedOf
+demand-1-index-3d-on xs ys zs xaxis yaxis zaxis order before = (exactly (on3Tests xs ys zs xaxis yaxis zaxis order before) tt, untouched _ _ before)
 
 -- of halvings in 2D and 3D alike
 pub demand-1-halving : (h : Halving) (ws splits ids : List ℕ)

@@ -1,30 +1,18 @@
-// halve GRID depth K [splits]: the part of each cell in the shape of the grid, or the cut of each node.
-// picture GRID depth K: a picture of the halved grid.
-use crate::grid;
-use crate::grid::Shape;
+// The halving of a grid, and what is shown of it.
+use crate::listing::print_ids;
+use crate::listing::print_splits;
 use crate::picture::draw;
-use crate::printing::print_ids;
-use crate::printing::print_splits;
+use crate::shape::Shape;
+use crate::shape::shape_of;
 use console::faults;
-use console::faults::SOUND;
-use console::files;
-use console::files::Size;
-use console::options::named;
-use console::usage::usage;
-use console::words::Asked;
-use console::words::count;
-use console::words::is;
-use console::words::number;
+use console::faults::say_all;
+use console::status::FAILED;
+use console::words::number_of;
+use console::words::place;
 use console::words::word;
+use fields::separator_of;
 use rules::Halving2;
 use rules::Halving3;
-
-// What is shown of a halved grid.
-pub enum Shown {
-    Ids,
-    Splits,
-    Picture,
-}
 
 // How many cuts a depth has.
 fn nodes_of(depth: u32) -> usize {
@@ -98,100 +86,64 @@ fn halve_in(shape: Shape, depth: u32, weights: &[u64], splits: &mut [u32], ids: 
     )
 }
 
-// Shows a halved grid.
+// Shows a halved grid as word 4 wants it: its splits, a picture, or else its ids.
 fn show(
-    shown: Shown,
+    line: &[u8],
     shape: Shape,
     depth: u32,
     weights: &[u64; 65536],
     splits: &[u32; 4095],
     ids: &[u32; 65536],
-) {
+) -> u8 {
+    let shown = place(line, 4, b"splits\npicture\n");
     match shown {
-        Shown::Ids => print_ids(ids, shape),
-        Shown::Splits => print_splits(splits, nodes_of(depth)),
-        Shown::Picture => draw(shape, depth, weights, ids),
+        0 => print_splits(splits, nodes_of(depth)),
+        1 => draw(shape, depth, weights, ids),
+        _ => print_ids(ids, shape),
     }
 }
 
-// Halves a grid and shows it; the number of refusal.
-fn halved(shape: Shape, depth: u32, shown: Shown, weights: &[u64; 65536]) -> u32 {
+// Says why a grid is refused, with its sides where they are.
+fn refused(path: &[u8], shape: Shape, number: u32) -> u8 {
+    faults::begin(path);
+    if number == rules::REFUSED_SIDES {
+        faults::write(b" ");
+        faults::write_number(shape.width);
+        faults::write(b" by ");
+        faults::write_number(shape.height);
+        faults::write(b" by ");
+        faults::write_number(shape.layers);
+        faults::write(b":");
+    }
+    faults::end_refused(number);
+    FAILED
+}
+
+// Halves a grid and shows it, or says why it is refused.
+fn halved(line: &[u8], shape: Shape, depth: u32, weights: &[u64; 65536]) -> u8 {
     let mut splits = [0u32; 4095];
     let mut ids = [0u32; 65536];
-    let refusal = halve_in(shape, depth, weights, &mut splits, &mut ids);
-    if refusal == rules::ANSWERED {
-        show(shown, shape, depth, weights, &splits, &ids);
+    let number = halve_in(shape, depth, weights, &mut splits, &mut ids);
+    if number != rules::ANSWERED {
+        return refused(word(line, 2), shape, number);
     }
-    refusal
+    show(line, shape, depth, weights, &splits, &ids)
 }
 
 // Reads a text's grid, halves it and shows it, or says what is wrong.
-fn halve_text(path: &[u8], errors: i32, text: &[u8], depth: u32, shown: Shown) {
+pub(crate) fn of_text(line: &[u8], text: &[u8]) -> u8 {
     let mut weights = [0u64; 65536];
-    let read = grid::read(text, &mut weights);
-    let f = read.fault;
-    if f.what != SOUND {
-        faults::say(errors, path, text, f);
-        return;
+    let mut kept = [0usize; 61];
+    let separator = separator_of(text);
+    let grid = whole_files::grid::read(text, separator, &mut weights, &mut kept);
+    if kept[0] != 0 {
+        say_all(word(line, 2), text, separator, &kept);
+        return FAILED;
     }
-    let refusal = halved(grid::shape_of(read), depth, shown, &weights);
-    if refusal != rules::ANSWERED {
-        faults::refused(errors, path, refusal);
-    }
-}
-
-// Halves the grid of a file.
-fn halve_file(path: &[u8], errors: i32, asked: Asked, shown: Shown, bytes: &mut [u8; 4194304]) {
-    let Asked::Is(depth) = asked else {
-        usage(errors);
-        return;
-    };
-    let read = files::read(path, errors, bytes);
-    let Size::Bytes(size) = read else {
-        return;
-    };
-    halve_text(path, errors, files::text(bytes, size), depth, shown);
-}
-
-// The depth that the words name, with `splits` behind it or not.
-fn depth_of(line: &[u8], splits: bool) -> Asked {
-    if !splits {
-        return named(line, 2, b"depth");
-    }
-    if count(line) != 5 {
-        return Asked::None;
-    }
-    if !is(line, 2, b"depth") {
-        return Asked::None;
-    }
-    number(line, 3)
-}
-
-// What the words want shown of a grid.
-fn shown_of(splits: bool) -> Shown {
-    if splits {
-        return Shown::Splits;
-    }
-    Shown::Ids
-}
-
-pub(crate) fn command(line: &[u8], errors: i32, bytes: &mut [u8; 4194304]) {
-    let splits = is(line, 4, b"splits");
-    halve_file(
-        word(line, 1),
-        errors,
-        depth_of(line, splits),
-        shown_of(splits),
-        bytes,
-    );
-}
-
-pub(crate) fn picture(line: &[u8], errors: i32, bytes: &mut [u8; 4194304]) {
-    halve_file(
-        word(line, 1),
-        errors,
-        named(line, 2, b"depth"),
-        Shown::Picture,
-        bytes,
-    );
+    halved(
+        line,
+        shape_of(grid, separator),
+        number_of(word(line, 3)),
+        &weights,
+    )
 }

@@ -1,73 +1,34 @@
-// The command line's part for grids: halves grids of weights and draws them.
+// The command line's part for grids: halves them, and shows the parts of all cells, the cuts, or a picture.
 //
-// Commands, transcripts and buffers are as in the part for knots.
-mod grid;
+// The script skarvolm knows the commands and hands their words on, each in its place: `report` or another word, the command, the file,
+// the depth, and what is to be shown.
 mod halve;
+mod listing;
 mod picture;
-mod printing;
+mod shape;
 
-use console::usage::usage;
-use console::words::is;
-use console::words::place;
+use console::files;
+use console::files::Size;
+use console::status::FAILED;
 use console::words::word;
-use libc::STDERR_FILENO;
-use libc::STDOUT_FILENO;
 
-// The place of a command among those that `command` knows.
-fn known(line: &[u8]) -> usize {
-    place(line, 0, b"halve\npicture\n")
+// Carries out a command on a file.
+fn carry_out(line: &[u8], bytes: &mut [u8; 4194304]) -> u8 {
+    let read = files::read(word(line, 2), bytes);
+    let Size::Bytes(size) = read else {
+        return FAILED;
+    };
+    halve::of_text(line, files::text(bytes, size))
 }
 
-// Carries out one command but a transcript; what is wrong is said on the descriptor `errors`.
-fn command(line: &[u8], errors: i32, bytes: &mut [u8; 4194304]) {
-    let which = known(line);
-    match which {
-        0 => halve::command(line, errors, bytes),
-        1 => halve::picture(line, errors, bytes),
-        _ => usage(errors),
-    }
-}
-
-// Carries out the command of a line, where it has one.
-fn command_of(line: &[u8; 4096], bytes: &mut [u8; 4194304]) {
-    if line[0] != 0 {
-        command(line, STDOUT_FILENO, bytes);
-    }
-}
-
-// Carries out each line of a text as a command, with errors among the output.
-fn run(text: &[u8], bytes: &mut [u8; 4194304]) {
-    let mut at: usize = 0;
-    while at < text.len() {
-        let mut line = [0u8; 4096];
-        at = console::transcript::next(text, at, &mut line);
-        command_of(&line, bytes);
-    }
-}
-
-// Carries out the commands of a file.
-fn transcript(path: &[u8], bytes: &mut [u8; 4194304]) {
-    let mut commands = io::large_buffer();
-    let size = console::transcript::read(path, &mut commands);
-    run(&commands[..size], bytes);
-}
-
-// Carries out a transcript or another command.
-fn start(line: &[u8], bytes: &mut [u8; 4194304]) {
-    if is(line, 0, b"transcript") {
-        transcript(word(line, 1), bytes);
-        return;
-    }
-    command(line, STDERR_FILENO, bytes);
-}
-
-fn start_of(line: &[u8; 4096], bytes: &mut [u8; 4194304]) {
-    start(line, bytes);
+fn carry_out_in(line: &[u8; 4096], bytes: &mut [u8; 4194304]) {
+    let status = carry_out(line, bytes);
+    console::status::report(line, status);
 }
 
 fn main() {
     let mut line = [0u8; 4096];
     console::words::arguments(&mut line);
     let mut bytes = [0u8; 4194304];
-    start_of(&line, &mut bytes);
+    carry_out_in(&line, &mut bytes);
 }

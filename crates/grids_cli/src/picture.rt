@@ -1,7 +1,7 @@
 // A picture of a halved grid, as SVG. Each cell is a square in its part's colour, darker where its weight is more, with its
 // place, weight and part as a title; the cuts are lines, thicker the earlier they were made. Layers stand beside each other.
-use crate::grid::Shape;
-use console::out;
+use crate::shape::Shape;
+use console::status::of_output;
 ghost use Prim.Native.Nat.{_≤_};
 
 // The heaviest of the weights.
@@ -20,11 +20,11 @@ fn heaviest(weights: &[u64; 65536], cells: usize) -> u64 {
 // A part's colour: each of 4,096 ids has its own, and ids that are near have hues that are far.
 fn colour(buffer: &mut [u8; 4096], at: usize, id: u32) -> usize {
     let n = (id % 4096) as u64;
-    let a = out::bytes(buffer, at, b"hsl(");
-    let b = out::number(buffer, a, n * 137 % 360);
-    let c = out::bytes(buffer, b, b",62%,");
-    let d = out::number(buffer, c, 62 + n / 360);
-    out::bytes(buffer, d, b"%)")
+    let a = printing::bytes(buffer, at, b"hsl(");
+    let b = printing::number(buffer, a, n * 137 % 360);
+    let c = printing::bytes(buffer, b, b",62%,");
+    let d = printing::number(buffer, c, 62 + n / 360);
+    printing::bytes(buffer, d, b"%)")
 }
 
 // Where a cell stands: its column counts the layers before it, each with one column of room.
@@ -63,27 +63,27 @@ fn spot_of(i: usize, shape: Shape) -> Spot
 
 // Puts where a cell stands.
 fn put_spot(buffer: &mut [u8; 4096], at: usize, spot: Spot) -> usize {
-    let a = out::bytes(buffer, at, b"<rect x='");
-    let b = out::number(buffer, a, spot.column);
-    let c = out::bytes(buffer, b, b"' y='");
-    out::number(buffer, c, spot.row)
+    let a = printing::bytes(buffer, at, b"<rect x='");
+    let b = printing::number(buffer, a, spot.column);
+    let c = printing::bytes(buffer, b, b"' y='");
+    printing::number(buffer, c, spot.row)
 }
 
 // Puts a cell's colour and shade.
 fn put_fill(buffer: &mut [u8; 4096], at: usize, id: u32, shade: u64) -> usize {
-    let a = out::bytes(buffer, at, b"' width='1' height='1' fill='");
+    let a = printing::bytes(buffer, at, b"' width='1' height='1' fill='");
     let b = colour(buffer, a, id);
-    let c = out::bytes(buffer, b, b"' fill-opacity='");
-    out::thousandths(buffer, c, shade)
+    let c = printing::bytes(buffer, b, b"' fill-opacity='");
+    printing::thousandths(buffer, c, shade)
 }
 
 // Puts a cell's weight and part as a title.
 fn put_title(buffer: &mut [u8; 4096], at: usize, weight: u64, id: u32) -> usize {
-    let a = out::bytes(buffer, at, b"'><title>weight ");
-    let b = out::number(buffer, a, weight);
-    let c = out::bytes(buffer, b, b", part ");
-    let d = out::number(buffer, c, id as u64);
-    out::bytes(buffer, d, b"</title></rect>\n")
+    let a = printing::bytes(buffer, at, b"'><title>weight ");
+    let b = printing::number(buffer, a, weight);
+    let c = printing::bytes(buffer, b, b", part ");
+    let d = printing::number(buffer, c, id as u64);
+    printing::bytes(buffer, d, b"</title></rect>\n")
 }
 
 // Puts a cell as a square in its part's colour.
@@ -150,12 +150,12 @@ fn parts(a: u32, b: u32, below: u32) -> bool {
 
 // Puts a line of length 1 from a cell's corner.
 fn put_edge(buffer: &mut [u8; 4096], at: usize, column: u64, row: u64, way: u8) -> usize {
-    let a = out::byte(buffer, at, b'M');
-    let b = out::number(buffer, a, column);
-    let c = out::byte(buffer, b, b' ');
-    let d = out::number(buffer, c, row);
-    let e = out::byte(buffer, d, way);
-    out::byte(buffer, e, b'1')
+    let a = printing::byte(buffer, at, b'M');
+    let b = printing::number(buffer, a, column);
+    let c = printing::byte(buffer, b, b' ');
+    let d = printing::number(buffer, c, row);
+    let e = printing::byte(buffer, d, way);
+    printing::byte(buffer, e, b'1')
 }
 
 // Puts the cut between a cell and the one left of it, and the one above it, where they part.
@@ -223,11 +223,11 @@ fn put_level(
     shape: Shape,
     ids: &[u32; 65536],
 ) -> usize {
-    let a = out::bytes(buffer, at, b"<path stroke-width='");
-    let b = out::thousandths(buffer, a, 60 + 25 * (below % 16) as u64);
-    let c = out::bytes(buffer, b, b"' d='");
+    let a = printing::bytes(buffer, at, b"<path stroke-width='");
+    let b = printing::thousandths(buffer, a, 60 + 25 * (below % 16) as u64);
+    let c = printing::bytes(buffer, b, b"' d='");
     let d = put_lines(buffer, c, below, shape, ids);
-    out::bytes(buffer, d, b"'/>\n")
+    printing::bytes(buffer, d, b"'/>\n")
 }
 
 // Puts the cuts of all levels, the last first, so that earlier ones lie above.
@@ -255,15 +255,15 @@ fn put_head(buffer: &mut [u8; 4096], shape: Shape) -> usize {
     }
     let last = spot_of(cells - 1, shape);
     let height = (shape.height % 2048) as u64;
-    let a = out::bytes(
+    let a = printing::bytes(
         buffer,
         0,
         b"<svg xmlns='http://www.w3.org/2000/svg' width='960' viewBox='-0.5 -0.5 ",
     );
-    let b = out::number(buffer, a, last.column + 2);
-    let c = out::byte(buffer, b, b' ');
-    let d = out::number(buffer, c, height + 1);
-    out::bytes(
+    let b = printing::number(buffer, a, last.column + 2);
+    let c = printing::byte(buffer, b, b' ');
+    let d = printing::number(buffer, c, height + 1);
+    printing::bytes(
         buffer,
         d,
         b"'>\n<rect x='-0.5' y='-0.5' width='100%' height='100%' fill='white'/>\n",
@@ -271,16 +271,16 @@ fn put_head(buffer: &mut [u8; 4096], shape: Shape) -> usize {
 }
 
 // Draws a halved grid, with the cuts of so many levels.
-pub(crate) fn draw(shape: Shape, depth: u32, weights: &[u64; 65536], ids: &[u32; 65536]) {
+pub(crate) fn draw(shape: Shape, depth: u32, weights: &[u64; 65536], ids: &[u32; 65536]) -> u8 {
     let mut buffer = [0u8; 4096];
     let a = put_head(&mut buffer, shape);
     let b = put_cells(&mut buffer, a, shape, weights, ids);
-    let c = out::bytes(
+    let c = printing::bytes(
         &mut buffer,
         b,
         b"<g fill='none' stroke='black' stroke-linecap='square'>\n",
     );
     let d = put_levels(&mut buffer, c, depth, shape, ids);
-    let e = out::bytes(&mut buffer, d, b"</g>\n</svg>\n");
-    out::flush(&buffer, e);
+    let e = printing::bytes(&mut buffer, d, b"</g>\n</svg>\n");
+    of_output(printing::flush(&buffer, e))
 }

@@ -1,128 +1,163 @@
-// index KNOTS [order N]: the index of each knot, and then its line as it stood.
-use crate::table;
+// The indices of knots in the box around them, or in one that is given.
+use crate::asked;
+use crate::lines;
+use crate::notes;
+use crate::refusals;
 use console::faults;
-use console::faults::SOUND;
-use console::files;
-use console::files::Size;
-use console::lines::has_word;
-use console::lines::line_end;
-use console::options::order;
-use console::out;
-use console::usage::usage;
-use console::words::Asked;
+use console::status::MISUSED;
 use console::words::word;
+use knot_files::columns::Columns;
+use knot_files::ends;
+use knot_files::layout::Layout;
+use rules::Extent;
 
-// The first n values, or all where there are fewer.
-fn first(values: &[f64], n: usize) -> &[f64] {
-    if values.len() < n {
-        return values;
+// The values of a coordinate, of n points.
+fn of_axis(values: &[f64], axis: usize, n: usize) -> &[f64] {
+    let start = axis % 3 * 65536;
+    if 65536 < n {
+        return &values[..0];
     }
-    &values[..n]
+    if values.len() < start + n {
+        return &values[..0];
+    }
+    &values[start..start + n]
 }
 
-// The indices of the first n points in 2D, or the number of refusal.
-fn file_2d(n: usize, order: u32, xs: &[f64], ys: &[f64], indices: &mut [u64]) -> u32 {
+// Low and high of a coordinate.
+fn side(ends: &[f64; 6], axis: usize) -> Extent {
+    let i = axis % 3 * 2;
+    Extent {
+        low: ends[i],
+        high: ends[i + 1],
+    }
+}
+
+// The indices of n points in 2D, or the number of refusal.
+fn file_2d(values: &[f64], n: usize, ends: &[f64; 6], order: u32, indices: &mut [u64]) -> u32 {
     if indices.len() < n {
         return rules::REFUSED_LENGTHS;
     }
-    knots::index_2d(first(xs, n), first(ys, n), order, &mut indices[..n])
-}
-
-// The indices of the first n points in 3D, or the number of refusal.
-fn file_3d(n: usize, order: u32, xs: &[f64], ys: &[f64], zs: &[f64], indices: &mut [u64]) -> u32 {
-    if indices.len() < n {
-        return rules::REFUSED_LENGTHS;
-    }
-    knots::index_3d(
-        first(xs, n),
-        first(ys, n),
-        first(zs, n),
+    given_2d::index_2d_in(
+        of_axis(values, 0, n),
+        of_axis(values, 1, n),
+        side(ends, 0),
+        side(ends, 1),
         order,
         &mut indices[..n],
     )
 }
 
-// Puts a knot's line behind its index.
-fn put_line(buffer: &mut [u8; 4096], at: usize, index: u64, line: &[u8]) -> usize {
-    let a = out::number(buffer, at, index);
-    let b = out::byte(buffer, a, b',');
-    let c = out::bytes(buffer, b, line);
-    out::byte(buffer, c, b'\n')
-}
-
-// Prints each line that has a knot, behind its index.
-fn print(text: &[u8], indices: &[u64; 65536]) {
-    let mut buffer = [0u8; 4096];
-    let mut put: usize = 0;
-    let mut point: usize = 0;
-    let mut at: usize = 0;
-    while at < text.len() {
-        let end = line_end(text, at);
-        if has_word(text, at) {
-            if point < 65536 {
-                put = put_line(&mut buffer, put, indices[point], &text[at..end]);
-                point += 1;
-            }
-        }
-        at = end + 1;
+// The indices of n points in 3D, or the number of refusal.
+fn file_3d(values: &[f64], n: usize, ends: &[f64; 6], order: u32, indices: &mut [u64]) -> u32 {
+    if indices.len() < n {
+        return rules::REFUSED_LENGTHS;
     }
-    out::flush(&buffer, put);
+    given_3d::index_3d_in(
+        of_axis(values, 0, n),
+        of_axis(values, 1, n),
+        of_axis(values, 2, n),
+        side(ends, 0),
+        side(ends, 1),
+        side(ends, 2),
+        order,
+        &mut indices[..n],
+    )
 }
 
-// The indices of a table's points, in 2D or 3D by the number of columns; or the number of refusal.
+// The indices of n points with so many coordinates, or the number of refusal.
 fn file(
-    columns: usize,
+    count: usize,
+    values: &[f64; 196608],
     n: usize,
+    ends: &[f64; 6],
     order: u32,
-    xs: &[f64; 65536],
-    ys: &[f64; 65536],
-    zs: &[f64; 65536],
     indices: &mut [u64; 65536],
 ) -> u32 {
-    if columns == 2 {
-        return file_2d(n, order, xs, ys, indices);
+    if count == 2 {
+        return file_2d(values, n, ends, order, indices);
     }
-    file_3d(n, order, xs, ys, zs, indices)
+    file_3d(values, n, ends, order, indices)
 }
 
-// Files the knots of a text.
-fn file_text(path: &[u8], errors: i32, text: &[u8], order: u32) {
-    let mut xs = [0.0f64; 65536];
-    let mut ys = [0.0f64; 65536];
-    let mut zs = [0.0f64; 65536];
-    let read = table::read(text, &mut xs, &mut ys, &mut zs);
-    let f = read.fault;
-    if f.what != SOUND {
-        faults::say(errors, path, text, f);
-        return;
+// The ends of the box: those that are given, or those of the points. Whether the given ones are decimals, as many as there should be.
+fn fill_ends(
+    line: &[u8],
+    count: usize,
+    values: &[f64; 196608],
+    n: usize,
+    ends: &mut [f64; 6],
+) -> bool {
+    let given = asked::ends(line);
+    if given == 0 {
+        let mut points = [0usize; 6];
+        ends::points_at(values, n, &mut points);
+        ends::of_points(values, &points, ends);
+        return true;
     }
+    if given / 2 != count {
+        faults::of(b"box", b"wanted a low and a high for each coordinate");
+        return false;
+    }
+    let i = ends::of_words(line, asked::BOX, given, ends);
+    if i < 6 {
+        faults::of(word(line, asked::BOX + i), b"wanted a decimal in the box");
+        return false;
+    }
+    true
+}
+
+// Indexes the points and prints them, or says why they are refused.
+fn index(
+    line: &[u8],
+    text: &[u8],
+    layout: Layout,
+    columns: Columns,
+    n: usize,
+    values: &[f64; 196608],
+    starts: &[u32; 65536],
+    ends: &[f64; 6],
+) -> u8 {
     let mut indices = [0u64; 65536];
-    let refusal = file(
-        read.columns,
-        read.points,
-        order,
-        &xs,
-        &ys,
-        &zs,
+    let number = file(
+        columns.count,
+        values,
+        n,
+        ends,
+        asked::order(line),
         &mut indices,
     );
-    if refusal != rules::ANSWERED {
-        faults::refused(errors, path, refusal);
-        return;
+    if number != rules::ANSWERED {
+        return refusals::say(
+            line,
+            text,
+            layout.separator,
+            columns,
+            n,
+            values,
+            starts,
+            ends,
+            number,
+        );
     }
-    print(text, &indices);
+    lines::print(line, text, layout, columns, n, values, starts, &indices)
 }
 
-pub(crate) fn command(line: &[u8], errors: i32, bytes: &mut [u8; 4194304]) {
-    let asked = order(line, 2);
-    let Asked::Is(order) = asked else {
-        usage(errors);
-        return;
-    };
-    let path = word(line, 1);
-    let read = files::read(path, errors, bytes);
-    let Size::Bytes(size) = read else {
-        return;
-    };
-    file_text(path, errors, files::text(bytes, size), order);
+// What is wanted of n points: their box alone, or their indices.
+pub(crate) fn of_points(
+    line: &[u8],
+    text: &[u8],
+    layout: Layout,
+    columns: Columns,
+    n: usize,
+    values: &[f64; 196608],
+    starts: &[u32; 65536],
+) -> u8 {
+    if asked::extent(line) {
+        return notes::print(line, text, layout.separator, columns, n, values, starts);
+    }
+    let mut ends = [0.0f64; 6];
+    if !fill_ends(line, columns.count, values, n, &mut ends) {
+        return MISUSED;
+    }
+    index(line, text, layout, columns, n, values, starts, &ends)
 }

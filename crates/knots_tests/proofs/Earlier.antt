@@ -14,11 +14,11 @@ use Rattle.knots_tests.specs.Tests.{shapeTests, pointTests}
 
 -- of tests and others behind them: a number of the former stays, and where it is 0 the latter count
 module _ (ts us : List Test) where
-  stays : (r : ℕ) → r ≡ firstOf ts → (r ≡ 0 → ⊥) → r ≡ firstOf (ts ++ us)
+  pub stays : (r : ℕ) → r ≡ firstOf ts → (r ≡ 0 → ⊥) → r ≡ firstOf (ts ++ us)
   stays zero e f = absurd (f refl)
   stays (suc r) e f = sym (first-earlier ts us r (sym e))
 
-  counts : T (numbered ts) → firstOf ts ≡ 0 → firstOf (ts ++ us) ≡ firstOf us
+  pub counts : T (numbered ts) → firstOf ts ≡ 0 → firstOf (ts ++ us) ≡ firstOf us
   counts n e = first-later ts us (none-passes ts n e)
 
 module _ (most order n : ℕ) (lengths : List ℕ) (axes : List (List Float)) where

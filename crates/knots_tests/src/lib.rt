@@ -1,4 +1,5 @@
-// Whether a call on points is refused before an axis is made, and with which number, inside: `knots_2d` and `knots_3d` call it.
+// Whether a call on points is refused before an axis is made, and with which number, inside: `knots_2d` and `knots_3d` call it, and
+// `given_2d` and `given_3d` its tests 1, 4, 5.
 //
 //   1   the order is over the highest
 //   4   there are no points
@@ -23,7 +24,7 @@ use rules::TOP_ORDER_2D;
 use rules::TOP_ORDER_3D;
 
 // The number of the tests of the order and of the slices' lengths: n points, and so many ys, zs and indices.
-fn shape_refusal(most: u32, order: u32, n: usize, ys: usize, zs: usize, indices: usize) -> u32
+pub fn shape_refusal(most: u32, order: u32, n: usize, ys: usize, zs: usize, indices: usize) -> u32
     ensures { λ r. ⌜ r ≡ firstOf (shapeTests most order n (ys ∷ zs ∷ indices ∷ [])) ⌝ }
 {
     if order > most {

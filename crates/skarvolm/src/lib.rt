@@ -10,7 +10,8 @@ ghost use Rattle.rules.specs.Curve.{depositOf, encode2, encode3, decode2, decod
 ghost use Rattle.rules.specs.Knots.{indexAll2, indexAll3};
 ghost use Rattle.requests.specs.Parts.{partsAlong};
 ghost use Rattle.axis_out.specs.Cells.{cellBetween};
-ghost use Rattle.skarvolm.specs.Calls.{rcb2, rcb3};
+ghost use Rattle.skarvolm.specs.Calls.{in2, in3, rcb2, rcb3};
+use rules::Extent;
 use rules::Halving2;
 use rules::Halving3;
 
@@ -98,6 +99,65 @@ pub extern "C" fn skarvolm_index_3d(
     ensures filed { λ _. ⌜ now (indices .exit) ≡ indexAll3 (now (xs .entry)) (now (ys .entry)) (now (zs .entry)) order (now (indices .entry)) .indices ⌝ }
 {
     knots::index_3d(xs, ys, zs, order, indices)
+}
+
+// The indices of all points on axes from low to high.
+#[no_mangle]
+pub extern "C" fn skarvolm_index_2d_in(
+    xlow: f64,
+    xhigh: f64,
+    ylow: f64,
+    yhigh: f64,
+    xs: &[f64],
+    ys: &[f64],
+    order: u32,
+    indices: &mut [u64],
+) -> u32
+    ensures number { λ r. ⌜ r ≡ in2 xlow xhigh ylow yhigh (now (xs .entry)) (now (ys .entry)) order (now (indices .entry)) .number ⌝ }
+    ensures filed { λ _. ⌜ now (indices .exit) ≡ in2 xlow xhigh ylow yhigh (now (xs .entry)) (now (ys .entry)) order (now (indices .entry)) .indices ⌝ }
+{
+    let x = Extent {
+        low: xlow,
+        high: xhigh,
+    };
+    let y = Extent {
+        low: ylow,
+        high: yhigh,
+    };
+    knots::index_2d_in(xs, ys, x, y, order, indices)
+}
+
+// The indices of all points on axes from low to high in 3D.
+#[no_mangle]
+pub extern "C" fn skarvolm_index_3d_in(
+    xlow: f64,
+    xhigh: f64,
+    ylow: f64,
+    yhigh: f64,
+    zlow: f64,
+    zhigh: f64,
+    xs: &[f64],
+    ys: &[f64],
+    zs: &[f64],
+    order: u32,
+    indices: &mut [u64],
+) -> u32
+    ensures number { λ r. ⌜ r ≡ in3 xlow xhigh ylow yhigh zlow zhigh (now (xs .entry)) (now (ys .entry)) (now (zs .entry)) order (now (indices .entry)) .number ⌝ }
+    ensures filed { λ _. ⌜ now (indices .exit) ≡ in3 xlow xhigh ylow yhigh zlow zhigh (now (xs .entry)) (now (ys .entry)) (now (zs .entry)) order (now (indices .entry)) .indices ⌝ }
+{
+    let x = Extent {
+        low: xlow,
+        high: xhigh,
+    };
+    let y = Extent {
+        low: ylow,
+        high: yhigh,
+    };
+    let z = Extent {
+        low: zlow,
+        high: zhigh,
+    };
+    knots::index_3d_in(xs, ys, zs, x, y, z, order, indices)
 }
 
 // The splits and ids of a halved grid.

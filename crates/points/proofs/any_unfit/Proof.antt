@@ -1,16 +1,11 @@
 -- `points::any_unfit` meets its contract. The invariant: whether some value is unfit is whether one from i on is. Assumes nothing.
-use mathlib.Core.Path.{_≡_, refl, sym, ap, _∙_}
-use mathlib.Core.Bool.{Bool, true, false, _||_}
-use mathlib.Core.List.{List}
-use Prim.Native.Nat.{ℕ, suc, _≤_, _<_, _-_, _+_}
-use native.Mathlib.Numerals.{add-one}
+use mathlib.Core.Path.{_≡_, refl, sym, _∙_}
+use Prim.Native.Nat.{_<_, _-_}
 use borrow.Author.Needs.{needs}
-use lib.ListN.{length, getD, drop}
-use lib.Seq.{drop-cons}
-use lib.Ieee.{Float, nan}
+use lib.ListN.{length, drop}
 use Rattle.rules.specs.Sums.{any}
 use Rattle.rules.specs.Refusals.{valueUnfit}
-use Rattle.extent.proofs.PastTheEnd.{none-left}
+use Rattle.points.proofs.Scan.{further, found, ended}
 use Rattle.points.proofs.any_unfit.Statement.{statement}
 use Rattle.points.proofs.any_unfit.Tie as tie
 
@@ -23,36 +18,20 @@ abbrev μ-loop : tie.MeasureT-loop
 loop-holds : tie.Need-loop-holds Inv-loop μ-loop
 loop-holds c = refl
 
--- the value at i, and those after it
-at : (xs : List Float) (i : ℕ) → i < length xs → any valueUnfit (drop i xs) ≡ valueUnfit (getD xs i nan) || any valueUnfit (drop (suc i) xs)
-unfolding any
-at xs i h = ap (any valueUnfit) (drop-cons xs i nan h)
-
--- one value further
-further : (xs : List Float) (i : ℕ) (b : Bool) → i < length xs → any valueUnfit (drop i xs) ≡ b → valueUnfit (getD xs i nan) ≡ false → any valueUnfit (drop (i + 1) xs) ≡ b
-further xs i b h e k = rw add-one (ap (λ (t : Bool). t || any valueUnfit (drop (suc i) xs)) (sym k) ∙ sym (at xs i h) ∙ e)
-
-found : (xs : List Float) (i : ℕ) → i < length xs → any valueUnfit (drop i xs) ≡ any valueUnfit xs → valueUnfit (getD xs i nan) ≡ true → true ≡ any valueUnfit xs
-found xs i h e k = ap (λ (t : Bool). t || any valueUnfit (drop (suc i) xs)) (sym k) ∙ sym (at xs i h) ∙ e
-
 returns : tie.Need-returns Inv-loop μ-loop
 returns c =
     let l = c .before .before .before .before in
     let h : l .loop .i < length (l .before .before .args .xs .now) = search needs in
-    found _ _ h (l .loop .inv) (sym (c .before .unfit .ensures) ∙ c .if1 .taken)
+    found valueUnfit _ _ h (l .loop .inv) (sym (c .before .unfit .ensures) ∙ c .if1 .taken)
 
 loop-again : tie.Need-loop-again Inv-loop μ-loop
 loop-again c =
     let l = c .before .before .before .before in
     let h : l .loop .i < length (l .before .before .args .xs .now) = search needs in
-    further _ _ _ h (l .loop .inv) (sym (c .before .unfit .ensures) ∙ c .if1 .left)
-
-ended : (xs : List Float) (i : ℕ) → length xs ≤ i → any valueUnfit (drop i xs) ≡ false
-unfolding any
-ended xs i h = ap (any valueUnfit) (none-left xs i h)
+    further valueUnfit _ _ _ h (l .loop .inv) (sym (c .before .unfit .ensures) ∙ c .if1 .left)
 
 returns-2 : tie.Need-returns-2 Inv-loop μ-loop
-returns-2 c = sym (ended _ _ (c .loop-test .left)) ∙ c .before .loop .inv
+returns-2 c = ended valueUnfit _ _ (c .loop-test .left) (c .before .loop .inv)
 
 pub any-unfit-spec : {M : Type 1} → statement M
 any-unfit-spec =

@@ -1,14 +1,14 @@
--- Each turn takes one number.
-use Prim.Native.Nat.{_≤_, _-_}
+-- Safe, and ends.
+use Prim.Native.Nat.{_-_}
 use borrow.Author.Needs.{needs}
 use Rattle.console.proofs.meanings.numbers.Statement.{statement}
 use Rattle.console.proofs.meanings.numbers.Tie as tie
 
 abbrev Inv-loop : tie.InvT-loop
-Inv-loop fd number₀ t3 number = number ≤ 256
+Inv-loop fd written₀ number₀ t4 written number = Unit {0}
 
 abbrev μ-loop : tie.MeasureT-loop
-μ-loop fd number₀ t3 number = 256 - number
+μ-loop fd written₀ number₀ t4 written number = 256 - number
 
 pub numbers-spec : {M : Type 1} → statement M
 numbers-spec =

@@ -12,6 +12,8 @@ file-2d-spec =
     (λ c. search needs)
     (λ c κs. search needs)
     (λ c κs. search needs)
+    (λ c κs. search needs)
+    (λ c κs. search needs)
     (λ c. search needs)
     (λ c. simp length-take (omega arith))
     (λ c κs. search needs)

@@ -1,0 +1,4 @@
+pub mod Reading
+pub mod GoesOn
+pub mod Examples
+pub mod Once

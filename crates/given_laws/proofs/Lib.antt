@@ -1,0 +1,2 @@
+pub mod OverThePoints
+pub mod NeverForeign

@@ -1,0 +1,4 @@
+pub mod Places
+pub mod OneAxis
+pub mod Calls
+pub mod Once

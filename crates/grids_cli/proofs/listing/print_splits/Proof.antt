@@ -1,0 +1,29 @@
+-- Safe, and ends.
+use Prim.Native.Nat.{_-_}
+use borrow.Author.Needs.{needs}
+use Rattle.grids_cli.proofs.listing.print_splits.Statement.{statement}
+use Rattle.grids_cli.proofs.listing.print_splits.Tie as tie
+
+abbrev Inv-loop : tie.InvT-loop
+Inv-loop splits nodes buffer₀ put₀ i₀ buffer put i = Unit {0}
+
+abbrev μ-loop : tie.MeasureT-loop
+μ-loop splits nodes buffer₀ put₀ i₀ buffer put i = 4095 - i
+
+pub print-splits-spec : {M : Type 1} → statement M
+print-splits-spec =
+    tie.close
+    (tie.spec
+    Inv-loop
+    μ-loop
+    (λ c. search needs)
+    (λ c. search needs)
+    (λ c. search needs)
+    (λ c. search needs)
+    (λ c κs. search needs)
+    (λ c. search needs)
+    (λ c. search needs)
+    (λ c. search needs)
+    (λ c κs. search needs)
+    (λ c κs. search needs)
+    (λ c. search needs))

@@ -1,0 +1,20 @@
+// The shape of a grid: its cells, the width of a line, the height of a layer and how many layers; and what parts the weights of a line.
+use whole_files::grid::Grid;
+
+pub struct Shape {
+    pub cells: usize,
+    pub width: usize,
+    pub height: usize,
+    pub layers: usize,
+    pub separator: u8,
+}
+
+pub(crate) fn shape_of(grid: Grid, separator: u8) -> Shape {
+    Shape {
+        cells: grid.cells,
+        width: grid.width,
+        height: grid.height,
+        layers: grid.layers,
+        separator,
+    }
+}

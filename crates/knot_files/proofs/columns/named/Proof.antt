@@ -1,0 +1,28 @@
+-- Safe, and ends.
+use Prim.Native.Nat.{_-_}
+use borrow.Author.Needs.{needs}
+use Rattle.knot_files.proofs.columns.named.Statement.{statement}
+use Rattle.knot_files.proofs.columns.named.Tie as tie
+
+abbrev Inv-loop : tie.InvT-loop
+Inv-loop text at separator name k₀ k-end k = Unit {0}
+
+abbrev μ-loop : tie.MeasureT-loop
+μ-loop text at separator name k₀ k-end k = k-end - k
+
+pub named-spec : {M : Type 1} → statement M
+named-spec =
+    tie.close
+    (tie.spec
+    Inv-loop
+    μ-loop
+    (λ c κs. search needs)
+    (λ c. search needs)
+    (λ c κs. search needs)
+    (λ c κs. search needs)
+    (λ c κs. search needs)
+    (λ c. search needs)
+    (λ c. search needs)
+    (λ c. search needs)
+    (λ c. search needs)
+    (λ c. search needs))

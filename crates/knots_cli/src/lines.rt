@@ -1,0 +1,167 @@
+// The list of indices: what it is, the header, and each knot's line behind its index.
+use crate::asked;
+use crate::notes;
+use crate::places::place_of;
+use console::lines::line_end;
+use console::lines::part;
+use console::status::of_output;
+use knot_files::columns::Columns;
+use knot_files::layout::Layout;
+use libc::STDERR_FILENO;
+
+// The points in the order of their indices, those that share one in file order.
+fn sort(indices: &[u64], n: usize, points: &mut [u32], work: &mut [u32]) {
+    if 65536 < n {
+        return;
+    }
+    if indices.len() < n {
+        return;
+    }
+    if points.len() < n {
+        return;
+    }
+    if work.len() < n {
+        return;
+    }
+    sort::in_order(&indices[..n], &mut points[..n], &mut work[..n]);
+}
+
+// The index of the point that stands at place `i` of the order.
+fn index_at(indices: &[u64; 65536], points: &[u32; 65536], i: usize) -> u64 {
+    indices[place_of(points, i) % 65536]
+}
+
+// How many of the sorted points share the index of the one before them.
+fn shared(indices: &[u64; 65536], points: &[u32; 65536], n: usize) -> u64 {
+    let mut count: u64 = 0;
+    for i in 0..65535usize {
+        if i + 1 < n {
+            if index_at(indices, points, i) == index_at(indices, points, i + 1) {
+                count = std::num::wrapping_add_u64(count, 1);
+            }
+        }
+    }
+    count
+}
+
+// Says how many knots share an index with one before them.
+fn say_shared(path: &[u8], count: u64, n: usize) {
+    if count == 0 {
+        return;
+    }
+    io::write_all(STDERR_FILENO, b"skarvolm: ");
+    io::write_all(STDERR_FILENO, path);
+    io::write_all(STDERR_FILENO, b": ");
+    io::print_decimal(STDERR_FILENO, count);
+    io::write_all(STDERR_FILENO, b" of ");
+    io::print_decimal(STDERR_FILENO, n as u64);
+    io::write_all(
+        STDERR_FILENO,
+        b" knots share an index with one before them\n",
+    );
+}
+
+// Puts a line of the text behind what stands before it.
+fn put_line(buffer: &mut [u8; 4096], at: usize, separator: u8, text: &[u8], start: usize) -> usize {
+    let a = printing::byte(buffer, at, separator);
+    let b = printing::bytes(buffer, a, part(text, start, line_end(text, start)));
+    printing::byte(buffer, b, b'\n')
+}
+
+// Puts the header behind the name of the indices' column, where there is one.
+fn put_header(buffer: &mut [u8; 4096], at: usize, text: &[u8], layout: Layout) -> usize {
+    if layout.head == layout.first {
+        return at;
+    }
+    let next = printing::bytes(buffer, at, b"index");
+    put_line(buffer, next, layout.separator, text, layout.head)
+}
+
+// Puts a point's line behind its index.
+fn put_point(
+    buffer: &mut [u8; 4096],
+    at: usize,
+    text: &[u8],
+    separator: u8,
+    point: usize,
+    starts: &[u32; 65536],
+    indices: &[u64; 65536],
+) -> usize {
+    let next = printing::number(buffer, at, indices[point % 65536]);
+    put_line(buffer, next, separator, text, place_of(starts, point))
+}
+
+// The point of line `i`: of file order, or of the order of the indices.
+fn point_of(i: usize, sorted: bool, points: &[u32; 65536]) -> usize {
+    if sorted {
+        return place_of(points, i);
+    }
+    i
+}
+
+// Puts the lines of n points.
+fn put_points(
+    buffer: &mut [u8; 4096],
+    at: usize,
+    text: &[u8],
+    separator: u8,
+    n: usize,
+    sorted: bool,
+    points: &[u32; 65536],
+    starts: &[u32; 65536],
+    indices: &[u64; 65536],
+) -> usize {
+    let mut next = at;
+    for i in 0..65536usize {
+        if i < n {
+            let point = point_of(i, sorted, points);
+            next = put_point(buffer, next, text, separator, point, starts, indices);
+        }
+    }
+    next
+}
+
+// Prints the list.
+pub(crate) fn print(
+    line: &[u8],
+    text: &[u8],
+    layout: Layout,
+    columns: Columns,
+    n: usize,
+    values: &[f64; 196608],
+    starts: &[u32; 65536],
+    indices: &[u64; 65536],
+) -> u8 {
+    let mut points = [0u32; 65536];
+    let mut work = [0u32; 65536];
+    sort(indices, n, &mut points, &mut work);
+    let mut buffer = [0u8; 4096];
+    let mut at: usize = 0;
+    if !asked::plain(line) {
+        at = notes::put(
+            &mut buffer,
+            line,
+            text,
+            layout.separator,
+            columns,
+            n,
+            values,
+            starts,
+        );
+    }
+    at = put_header(&mut buffer, at, text, layout);
+    at = put_points(
+        &mut buffer,
+        at,
+        text,
+        layout.separator,
+        n,
+        asked::sorted(line),
+        &points,
+        starts,
+        indices,
+    );
+    let written = printing::flush(&buffer, at);
+    say_shared(asked::path(line), shared(indices, &points, n), n);
+    of_output(written)
+}

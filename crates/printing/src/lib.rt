@@ -1,0 +1,137 @@
+// Standard output through a buffer, which is written when it is full. Each function puts something at `at` and answers the place
+// after it.
+//
+// Where standard output takes no more, that is said on standard error once, and the place is `LOST` from then on: nothing is put there.
+// So who prints hands the place on, and asks at the end whether `flush` could write everything.
+use libc::STDERR_FILENO;
+use libc::STDOUT_FILENO;
+ghost use Prim.Native.Nat.{_≤_, _<_};
+
+// The place behind something that could not be written.
+pub const LOST: usize = 4097;
+
+// Says what the system says of standard output.
+pub fn say_lost()
+    ensures { λ _. ⊤ₛ }
+{
+    io::write_all(STDERR_FILENO, b"skarvolm: ");
+    os::fail(b"standard output");
+}
+
+// Writes the first `at` bytes, and whether they could be written.
+fn write_part(out: &[u8], at: usize) -> bool {
+    if out.len() < at {
+        return false;
+    }
+    if io::write_all(STDOUT_FILENO, &out[..at]) {
+        return true;
+    }
+    say_lost();
+    false
+}
+
+// Writes what is in the buffer; whether that and everything before it could be written.
+pub fn flush(out: &[u8; 4096], at: usize) -> bool
+    ensures { λ _. ⊤ₛ }
+{
+    write_part(out, at)
+}
+
+// Writes a buffer that is full and puts a byte at its start.
+fn byte_anew(out: &mut [u8; 4096], at: usize, b: u8) -> usize
+    ensures { λ r. ⌜ (0 < r) × (r ≤ 4097) ⌝ }
+{
+    if !flush(out, at) {
+        return LOST;
+    }
+    out[0] = b;
+    1
+}
+
+pub fn byte(out: &mut [u8; 4096], at: usize, b: u8) -> usize
+    ensures { λ r. ⌜ (0 < r) × (r ≤ 4097) ⌝ }
+{
+    if at < 4096 {
+        out[at] = b;
+        return at + 1;
+    }
+    byte_anew(out, at, b)
+}
+
+pub fn bytes(out: &mut [u8; 4096], at: usize, what: &[u8]) -> usize
+    ensures { λ _. ⊤ₛ }
+{
+    let mut next = at;
+    let mut i: usize = 0;
+    while i < what.len() {
+        next = byte(out, next, what[i]);
+        i += 1;
+    }
+    next
+}
+
+fn first(digits: &[u8; 20], k: usize, out: &mut [u8; 4096], at: usize) -> usize {
+    let mut next = at;
+    let mut i: usize = 0;
+    while i < k {
+        if i < 20 {
+            next = byte(out, next, digits[i]);
+        }
+        i += 1;
+    }
+    next
+}
+
+// The digits of a number.
+pub fn number(out: &mut [u8; 4096], at: usize, n: u64) -> usize
+    ensures { λ _. ⊤ₛ }
+{
+    let mut digits = [0u8; 20];
+    let k = io::decimal(n, &mut digits);
+    first(&digits, k, out, at)
+}
+
+// Three digits of a number below 1,000, noughts in front.
+fn three_digits(out: &mut [u8; 4096], at: usize, n: u64) -> usize {
+    let a = byte(out, at, b'0' + (n / 100 % 10) as u8);
+    let b = byte(out, a, b'0' + (n / 10 % 10) as u8);
+    byte(out, b, b'0' + (n % 10) as u8)
+}
+
+// Three digits behind a point: n thousandths.
+pub fn thousandths(out: &mut [u8; 4096], at: usize, n: u64) -> usize
+    ensures { λ _. ⊤ₛ }
+{
+    let a = number(out, at, n / 1000);
+    let b = byte(out, a, b'.');
+    three_digits(out, b, n % 1000)
+}
+
+// The size of a value in millionths, rounded; 0 of what has too many.
+fn millionths_of(size: f64) -> u64 {
+    let n = size * 1000000.0 + 0.5;
+    if -1.0 < n {
+        if n < 18446744073709551616.0 {
+            return std::num::truncating_f64_to_u64(n);
+        }
+    }
+    0
+}
+
+// Six digits behind a point: the size of a value, rounded.
+fn size(out: &mut [u8; 4096], at: usize, value: f64) -> usize {
+    let n = millionths_of(value);
+    let a = thousandths(out, at, n / 1000);
+    three_digits(out, a, n % 1000)
+}
+
+// A value, with six digits behind the point.
+pub fn value(out: &mut [u8; 4096], at: usize, value: f64) -> usize
+    ensures { λ _. ⊤ₛ }
+{
+    if value < 0.0 {
+        let next = byte(out, at, b'-');
+        return size(out, next, -value);
+    }
+    size(out, at, value)
+}

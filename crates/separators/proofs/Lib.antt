@@ -1,0 +1,4 @@
+pub mod Machines
+pub mod Seeking
+pub mod Examples
+pub mod Once

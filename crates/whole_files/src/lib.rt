@@ -1,0 +1,6 @@
+// Whole numbers out of a file: the weights of a grid, the indices of a list.
+//
+// Every function is proved safe, and to end; what is read the gate compares.
+pub mod grid;
+pub mod list;
+pub mod row;
