@@ -26,11 +26,13 @@ pub enum Refused {
     Depth = 10,
     /// A weight over 16,777,215.
     Weight = 11,
+    /// A part count of 0 or over 1,024, or over 65,536 points.
+    Counts = 12,
 }
 
 impl Refused {
     /// Every refusal, in the order of the numbers.
-    pub const ALL: [Refused; 11] = [
+    pub const ALL: [Refused; 12] = [
         Refused::Order,
         Refused::Coordinate,
         Refused::Index,
@@ -42,9 +44,10 @@ impl Refused {
         Refused::Sides,
         Refused::Depth,
         Refused::Weight,
+        Refused::Counts,
     ];
 
-    /// The number of the refusal, from 1 to 11.
+    /// The number of the refusal, from 1 to 12.
     pub fn number(self) -> u32 {
         self as u32
     }
@@ -64,13 +67,14 @@ impl fmt::Display for Refused {
             Refused::Sides => "a side is 0 or over 1,024, or there are over 65,536 cells",
             Refused::Depth => "depth over 12",
             Refused::Weight => "a weight over 16,777,215",
+            Refused::Counts => "a part count of 0 or over 1,024, or over 65,536 points",
         })
     }
 }
 
 impl std::error::Error for Refused {}
 
-/// The value where the library returned 0, else the refusal of its number, which is proved to be one of the eleven.
+/// The value where the library returned 0, else the refusal of its number, which is proved to be one of the twelve.
 pub(crate) fn answered<T>(number: u32, value: T) -> Result<T, Refused> {
     match number {
         0 => Ok(value),
