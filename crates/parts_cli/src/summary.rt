@@ -56,9 +56,9 @@ fn put_bound(
 ) -> usize {
     let k = sums::heaviest(table);
     let bound = std::num::wrapping_add_u64(all, sums::times(count, most));
-    let a = printing::bytes(buffer, at, b"n*w / (T + n*c) of part ");
+    let a = printing::bytes(buffer, at, b"part ");
     let b = printing::number(buffer, a, k as u64);
-    let c = printing::byte(buffer, b, b' ');
+    let c = printing::bytes(buffer, b, b": n*w / (T + n*c) = ");
     let d = printing::number(buffer, c, sums::times(count, sums::weight(table, k)));
     put_named(buffer, d, b" / ", bound)
 }

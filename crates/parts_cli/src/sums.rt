@@ -123,7 +123,13 @@ pub(crate) fn heaviest_on_one(
     most
 }
 
-// A part count times a weight.
+// A part count times a weight; 0 of more than there can be.
 pub(crate) fn times(count: u32, weight: u64) -> u64 {
-    count as u64 % 4096 * (weight % 1099511627776)
+    if requests::TOP_PARTS < count {
+        return 0;
+    }
+    if 1099511627776 < weight {
+        return 0;
+    }
+    count as u64 * weight
 }
