@@ -1,4 +1,5 @@
-/* Skarvolm: Hilbert indices of cells and points, and halving of grids by recursive coordinate bisection, proved.
+/* Skarvolm: Hilbert indices of cells and points, parts of points along the curve, and halving of grids by recursive coordinate
+ * bisection, proved.
  *
  * Each call tests its own input and returns a number: 0 where it answers, else the number of refusal below. After a refusal
  * every result behind a pointer is 0 and every slice (a pointer and a length) is untouched. Every call ends, none allocates.
@@ -15,6 +16,7 @@
  *   9  a side is 0 or over 1,024, or there are over 65,536 cells
  *  10  depth over 12
  *  11  a weight over 16,777,215
+ *  12  a part count of 0 or over 1,024, or over 65,536 points
  *  13  the edition is neither 1 nor 2
  *  14  the first axis is not one of the grid's
  *
@@ -101,6 +103,15 @@ uint32_t skarvolm_halve_2d(uint32_t edition, uint32_t width, uint32_t height, ui
 uint32_t skarvolm_halve_3d(uint32_t edition, uint32_t width, uint32_t height, uint32_t layers, uint32_t first,
                            uint32_t depth, const uint64_t *weights, size_t weights_length, uint32_t *splits,
                            size_t splits_length, uint32_t *ids, size_t ids_length);
+
+/* Parts of points along the curve: n parts, by the points' indices and weights. For i from 1 to n - 1, split i is the smallest
+ * index present such that n times the weight at or below it reaches i times the weight of all; the part of a point is the
+ * number of splits strictly below its index. So parts are below n and do not fall along the curve, points that share an index
+ * share a part, and n times the weight of a part is at most the weight of all and n times the heaviest weight on one index.
+ * The order is the numbers of the points in order of index, equal indices by number. One weight, one part and one place of the
+ * order a point. Tests 12, 4, 5, 11. */
+uint32_t skarvolm_parts(uint32_t n, const uint64_t *indices, size_t indices_length, const uint64_t *weights,
+                        size_t weights_length, uint32_t *parts, size_t parts_length, uint32_t *order, size_t order_length);
 
 #ifdef __cplusplus
 }

@@ -28,22 +28,23 @@ struct side {
                        size_t);
     uint32_t (*halve_2d)(uint32_t, uint32_t, uint32_t, uint32_t, uint32_t, const uint64_t *, size_t, uint32_t *, size_t,
                          uint32_t *, size_t);
+    uint32_t (*parts)(uint32_t, const uint64_t *, size_t, const uint64_t *, size_t, uint32_t *, size_t, uint32_t *, size_t);
 };
 
 static const struct side library = {
     skarvolm_deposit, skarvolm_encode_2d, skarvolm_encode_3d, skarvolm_decode_2d,   skarvolm_decode_3d,
     skarvolm_cell,    skarvolm_index_2d,  skarvolm_index_3d,  skarvolm_index_2d_in, skarvolm_rcb_2d,
-    skarvolm_rcb_3d, skarvolm_halve_2d,
+    skarvolm_rcb_3d,  skarvolm_halve_2d,  skarvolm_parts,
 };
 static const struct side plain = {
     plain_deposit, plain_encode_2d, plain_encode_3d, plain_decode_2d,   plain_decode_3d,
     plain_cell,    plain_index_2d,  plain_index_3d,  plain_index_2d_in, plain_rcb_2d,
-    plain_rcb_3d, plain_halve_2d,
+    plain_rcb_3d,  plain_halve_2d,  plain_parts,
 };
 static const struct side empty = {
     empty_deposit, empty_encode_2d, empty_encode_3d, empty_decode_2d,   empty_decode_3d,
     empty_cell,    empty_index_2d,  empty_index_3d,  empty_index_2d_in, empty_rcb_2d,
-    empty_rcb_3d, empty_halve_2d,
+    empty_rcb_3d,  empty_halve_2d,  empty_parts,
 };
 
 struct operation {
@@ -55,12 +56,12 @@ struct operation {
 
 /* INPUTS AND ANSWERS */
 
-static uint64_t numbers[3][INPUTS], weights[CELLS];
+static uint64_t numbers[3][INPUTS], weights[CELLS], indices[CELLS];
 static double values[3][POINTS];
 
 static struct {
     uint64_t refused, wide[3][POINTS];
-    uint32_t splits[NODES], ids[CELLS];
+    uint32_t splits[NODES], ids[CELLS], order[CELLS];
 } answers, others;
 
 static uint64_t draw(void) {
@@ -73,7 +74,12 @@ static uint64_t draw(void) {
 
 static size_t cells_of(const struct operation *o) { return (size_t)o->sides[0] * o->sides[1] * o->sides[2]; }
 
-/* numbers of so many bits, the highest set; values from -50 to 50; weights from 1 to 100 */
+static void run_parts(const struct side *, const struct operation *, uint32_t);
+static void run_rising(const struct side *, const struct operation *, uint32_t);
+static void run_falling(const struct side *, const struct operation *, uint32_t);
+
+/* numbers of so many bits, the highest set; values from -50 to 50; weights from 1 to 100; indices of so many bits, as they are
+ * drawn, rising or falling */
 static void draw_inputs(const struct operation *o) {
     for (int a = 0; a < 3; a++) {
         for (int i = 0; i < INPUTS; i++)
@@ -83,6 +89,11 @@ static void draw_inputs(const struct operation *o) {
     }
     for (size_t i = 0; i < cells_of(o); i++)
         weights[i] = 1 + draw() % 100;
+    for (size_t i = 0; i < cells_of(o); i++)
+        indices[i] = o->run == run_rising    ? i
+                     : o->run == run_falling ? cells_of(o) - i
+                     : o->run == run_parts   ? draw() & ((UINT64_C(1) << o->bits) - 1)
+                                             : 0;
 }
 
 /* OPERATIONS: each calls a side's function so many times */
@@ -166,6 +177,17 @@ static void run_halve_2d(const struct side *s, const struct operation *o, uint32
             s->halve_2d(2, o->sides[0], o->sides[1], 1, o->order, weights, cells, answers.splits, nodes, answers.ids, cells);
 }
 
+static void run_parts(const struct side *s, const struct operation *o, uint32_t calls) {
+    size_t points = o->points;
+    for (uint32_t i = 0; i < calls; i++)
+        answers.refused |=
+            s->parts(o->order, indices, points, weights, points, answers.ids, points, answers.order, points);
+}
+
+static void run_rising(const struct side *s, const struct operation *o, uint32_t calls) { run_parts(s, o, calls); }
+
+static void run_falling(const struct side *s, const struct operation *o, uint32_t calls) { run_parts(s, o, calls); }
+
 static const struct operation operations[] = {
     {"deposit-12", 12, INPUTS, 1, 0, {0}, run_deposit, "deposit of 12 bits"},
     {"deposit-30", 30, INPUTS, 1, 0, {0}, run_deposit, "deposit of 30 bits"},
@@ -187,6 +209,12 @@ static const struct operation operations[] = {
     {"rcb_2d-256", 0, 1, 1, 8, {256, 256, 1}, run_rcb_2d, "rcb_2d of 256 by 256 at depth 8"},
     {"rcb_3d-16", 0, 1, 1, 6, {16, 16, 16}, run_rcb_3d, "rcb_3d of 16 by 16 by 16 at depth 6"},
     {"halve_2d-32", 0, 1, 1, 8, {32, 32, 1}, run_halve_2d, "halve_2d, edition 2, of 32 by 32 at depth 8"},
+    {"parts-1000", 60, 1, 1000, 64, {1000, 1, 1}, run_parts, "parts in 64, a point of 1,000"},
+    {"parts-10000", 60, 1, 10000, 64, {10000, 1, 1}, run_parts, "parts in 64, a point of 10,000"},
+    {"parts-65536", 60, 1, CELLS, 64, {CELLS, 1, 1}, run_parts, "parts in 64, a point of 65,536"},
+    {"parts-rising", 60, 1, CELLS, 64, {CELLS, 1, 1}, run_rising, "the same, indices rising"},
+    {"parts-falling", 60, 1, CELLS, 64, {CELLS, 1, 1}, run_falling, "the same, indices falling"},
+    {"parts-equal", 0, 1, CELLS, 64, {CELLS, 1, 1}, run_parts, "the same, indices equal"},
 };
 enum { OPERATIONS = sizeof operations / sizeof *operations };
 

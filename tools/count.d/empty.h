@@ -35,3 +35,8 @@ static uint32_t empty_halve_2d(uint32_t edition, uint32_t width, uint32_t height
                                uint32_t *ids, size_t ids_length) {
     return 0;
 }
+static uint32_t empty_parts(uint32_t n, const uint64_t *indices, size_t indices_length, const uint64_t *weights,
+                            size_t weights_length, uint32_t *parts, size_t parts_length, uint32_t *order,
+                            size_t order_length) {
+    return 0;
+}

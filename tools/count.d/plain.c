@@ -1,6 +1,7 @@
 /* The rules in plain C, by the level-by-level machines and direct loops, to have a cost to count against. */
 #include "plain.h"
 #include <math.h>
+#include <stdlib.h>
 
 /* THE CURVE */
 
@@ -357,4 +358,49 @@ uint32_t plain_halve_2d(uint32_t edition, uint32_t width, uint32_t height, uint3
                         uint32_t *ids, size_t ids_length) {
     uint32_t sides[2] = {width, height};
     return rcb(edition, 2, sides, first, depth, weights, weights_length, splits, splits_length, ids, ids_length);
+}
+
+/* PARTS, by the C library's qsort of pairs */
+
+struct point {
+    uint64_t index;
+    uint32_t number;
+};
+
+static int before(const void *left, const void *right) {
+    const struct point *p = left, *q = right;
+    if (p->index != q->index)
+        return p->index < q->index ? -1 : 1;
+    return p->number < q->number ? -1 : p->number > q->number;
+}
+
+uint32_t plain_parts(uint32_t n, const uint64_t *indices, size_t indices_length, const uint64_t *weights,
+                     size_t weights_length, uint32_t *parts, size_t parts_length, uint32_t *order, size_t order_length) {
+    static struct point points[65536];
+    uint64_t all = 0, sum = 0;
+    uint32_t part = 0;
+    if (n == 0 || n > 1024 || indices_length > 65536)
+        return 12;
+    if (indices_length == 0)
+        return 4;
+    if (weights_length != indices_length || parts_length != indices_length || order_length != indices_length)
+        return 5;
+    for (size_t i = 0; i < indices_length; i++)
+        if (weights[i] > 16777215)
+            return 11;
+    for (uint32_t i = 0; i < indices_length; i++) {
+        points[i].index = indices[i];
+        points[i].number = i;
+        all += weights[i];
+    }
+    qsort(points, indices_length, sizeof *points, before);
+    for (size_t i = 0; i < indices_length; i++) {
+        if (i > 0 && points[i].index != points[i - 1].index)
+            while (part + 1 < n && n * sum >= (part + 1) * all)
+                part++;
+        order[i] = points[i].number;
+        parts[points[i].number] = part;
+        sum += weights[points[i].number];
+    }
+    return 0;
 }

@@ -21,3 +21,5 @@ uint32_t plain_rcb_3d(uint32_t width, uint32_t height, uint32_t layers, uint32_t
 uint32_t plain_halve_2d(uint32_t edition, uint32_t width, uint32_t height, uint32_t first, uint32_t depth,
                         const uint64_t *weights, size_t weights_length, uint32_t *splits, size_t splits_length,
                         uint32_t *ids, size_t ids_length);
+uint32_t plain_parts(uint32_t n, const uint64_t *indices, size_t indices_length, const uint64_t *weights,
+                     size_t weights_length, uint32_t *parts, size_t parts_length, uint32_t *order, size_t order_length);

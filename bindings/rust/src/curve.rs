@@ -2,26 +2,31 @@ use crate::refused::answered;
 use crate::sys;
 use crate::Refused;
 
-/// The Hilbert curve of an order: 2^order cells on each axis.
+/// The Hilbert curve of an order, 2^order cells on each axis, and the parts that points along it are given.
 ///
 /// ```
 /// use skarvolm::{HilbertCurve, Refused};
 ///
-/// let curve = HilbertCurve { order: 7 };
+/// let curve = HilbertCurve { order: 7, ..Default::default() };
 /// assert_eq!(curve.encode_2d(127, 127), Ok(10922));
 /// assert_eq!(curve.decode_2d(10922), Ok((127, 127)));
 /// assert_eq!(curve.encode_2d(128, 0), Err(Refused::Coordinate));
 /// ```
 #[derive(Clone, Copy, Debug, PartialEq, Eq, Hash)]
 pub struct HilbertCurve {
+    /// From 1 to 1,024.
+    pub part_count: u32,
     /// At most 30 in 2D and on one axis, at most 21 in 3D.
     pub order: u32,
 }
 
 impl Default for HilbertCurve {
-    /// Order 12, as in coupe.
+    /// Two parts and order 12, as in coupe.
     fn default() -> Self {
-        Self { order: 12 }
+        Self {
+            part_count: 2,
+            order: 12,
+        }
     }
 }
 
@@ -66,8 +71,9 @@ impl HilbertCurve {
     /// ```
     /// # use skarvolm::HilbertCurve;
     /// // An axis from 0 to 4 in four cells: a value on a border lies in the lower one here.
-    /// assert_eq!(HilbertCurve { order: 2 }.cell(0.0, 4.0, 2.0), Ok(1));
-    /// assert_eq!(HilbertCurve { order: 2 }.cell(0.0, 4.0, 2.5), Ok(2));
+    /// let curve = HilbertCurve { order: 2, ..Default::default() };
+    /// assert_eq!(curve.cell(0.0, 4.0, 2.0), Ok(1));
+    /// assert_eq!(curve.cell(0.0, 4.0, 2.5), Ok(2));
     /// ```
     pub fn cell(self, low: f64, high: f64, value: f64) -> Result<u64, Refused> {
         let mut cell = 0;
@@ -81,7 +87,8 @@ impl HilbertCurve {
     ///
     /// ```
     /// # use skarvolm::HilbertCurve;
-    /// let indices = HilbertCurve { order: 1 }.index_2d(&[0.0, 0.0, 1.0, 1.0], &[0.0, 1.0, 1.0, 0.0]);
+    /// let curve = HilbertCurve { order: 1, ..Default::default() };
+    /// let indices = curve.index_2d(&[0.0, 0.0, 1.0, 1.0], &[0.0, 1.0, 1.0, 0.0]);
     /// assert_eq!(indices, Ok(vec![0, 1, 2, 3]));
     /// ```
     pub fn index_2d(self, xs: &[f64], ys: &[f64]) -> Result<Vec<u64>, Refused> {
@@ -121,13 +128,81 @@ impl HilbertCurve {
         answered(number, indices)
     }
 
+    /// Writes a part for each point, by its index and weight, and returns the numbers of the points in order of index, equal
+    /// indices by number. Refuses by [`Refused::Counts`], [`Refused::NoPoints`], [`Refused::Lengths`], [`Refused::Weight`], and
+    /// leaves `partition` untouched then.
+    ///
+    /// Split i, for i from 1 to part_count - 1, is the smallest index present such that part_count times the weight at or below
+    /// it reaches i times the weight of all; a part is the number of splits strictly below the point's index. So part_count
+    /// times a part's weight is at most the weight of all and part_count times the heaviest weight on one index.
+    ///
+    /// ```
+    /// # use skarvolm::HilbertCurve;
+    /// let mut partition = [0; 4];
+    /// let order = HilbertCurve::default().partition(&mut partition, &[7, 3, 5, 2], &[1; 4]);
+    /// assert_eq!(partition, [1, 0, 1, 0]);
+    /// assert_eq!(order, Ok(vec![3, 1, 2, 0]));
+    /// ```
+    pub fn partition(self, partition: &mut [u32], indices: &[u64], weights: &[u64]) -> Result<Vec<u32>, Refused> {
+        let mut order = vec![0; indices.len()];
+        // SAFETY: each pointer and length is a live slice's; `partition` and `order`, which are written, overlap nothing.
+        let number = unsafe {
+            sys::skarvolm_parts(
+                self.part_count,
+                indices.as_ptr(),
+                indices.len(),
+                weights.as_ptr(),
+                weights.len(),
+                partition.as_mut_ptr(),
+                partition.len(),
+                order.as_mut_ptr(),
+                order.len(),
+            )
+        };
+        answered(number, order)
+    }
+
+    /// Writes a part for each point along the curve, as [`HilbertCurve::partition`] does for their indices. Refuses as
+    /// [`HilbertCurve::index_2d`] does, then as [`HilbertCurve::partition`].
+    ///
+    /// ```
+    /// # use skarvolm::HilbertCurve;
+    /// let xs = [0.0, 1.0, 0.0, 1.0, 9.0, 10.0, 10.0, 9.0];
+    /// let ys = [0.0, 1.0, 10.0, 9.0, 1.0, 0.0, 10.0, 9.0];
+    /// let mut partition = [0; 8];
+    /// let curve = HilbertCurve { part_count: 4, ..Default::default() };
+    /// assert!(curve.partition_2d(&mut partition, &xs, &ys, &[1; 8]).is_ok());
+    /// assert_eq!(partition, [0, 0, 1, 1, 3, 3, 2, 2]);
+    /// ```
+    pub fn partition_2d(
+        self,
+        partition: &mut [u32],
+        xs: &[f64],
+        ys: &[f64],
+        weights: &[u64],
+    ) -> Result<Vec<u32>, Refused> {
+        self.partition(partition, &self.index_2d(xs, ys)?, weights)
+    }
+
+    /// Writes a part for each point along the curve, as [`HilbertCurve::partition_2d`] does in 2D.
+    pub fn partition_3d(
+        self,
+        partition: &mut [u32],
+        xs: &[f64],
+        ys: &[f64],
+        zs: &[f64],
+        weights: &[u64],
+    ) -> Result<Vec<u32>, Refused> {
+        self.partition(partition, &self.index_3d(xs, ys, zs)?, weights)
+    }
+
     /// The index of each point on axes that are given, each as its low and high, so that an index stays where points are added.
     /// Refuses by [`Refused::Order`], [`Refused::NoPoints`], [`Refused::Lengths`]; then by [`Refused::Value`],
     /// [`Refused::Outside`], [`Refused::Thin`] for an axis, and by [`Refused::Value`], [`Refused::Outside`] for a point.
     ///
     /// ```
     /// # use skarvolm::HilbertCurve;
-    /// let curve = HilbertCurve { order: 1 };
+    /// let curve = HilbertCurve { order: 1, ..Default::default() };
     /// assert_eq!(curve.index_2d_in((0.0, 4.0), (0.0, 4.0), &[3.0], &[1.0]), Ok(vec![3]));
     /// assert_eq!(curve.index_2d_in((0.0, 4.0), (0.0, 4.0), &[3.0, 0.0], &[1.0, 4.0]), Ok(vec![3, 1]));
     /// ```

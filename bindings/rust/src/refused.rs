@@ -26,6 +26,8 @@ pub enum Refused {
     Depth = 10,
     /// A weight over 16,777,215.
     Weight = 11,
+    /// A part count of 0 or over 1,024, or over 65,536 points.
+    Counts = 12,
     /// The edition is neither 1 nor 2.
     Edition = 13,
     /// The first axis is not one of the grid's.
@@ -34,7 +36,7 @@ pub enum Refused {
 
 impl Refused {
     /// Every refusal, in the order of the numbers.
-    pub const ALL: [Refused; 13] = [
+    pub const ALL: [Refused; 14] = [
         Refused::Order,
         Refused::Coordinate,
         Refused::Index,
@@ -46,11 +48,12 @@ impl Refused {
         Refused::Sides,
         Refused::Depth,
         Refused::Weight,
+        Refused::Counts,
         Refused::Edition,
         Refused::First,
     ];
 
-    /// The number of the refusal, from 1 to 11, or 13 or 14.
+    /// The number of the refusal, from 1 to 14.
     pub fn number(self) -> u32 {
         self as u32
     }
@@ -70,6 +73,7 @@ impl fmt::Display for Refused {
             Refused::Sides => "a side is 0 or over 1,024, or there are over 65,536 cells",
             Refused::Depth => "depth over 12",
             Refused::Weight => "a weight over 16,777,215",
+            Refused::Counts => "a part count of 0 or over 1,024, or over 65,536 points",
             Refused::Edition => "the edition is neither 1 nor 2",
             Refused::First => "the first axis is not one of the grid's",
         })

@@ -84,4 +84,15 @@ extern "C" {
         ids: *mut u32,
         ids_length: usize,
     ) -> u32;
+    pub fn skarvolm_parts(
+        n: u32,
+        indices: *const u64,
+        indices_length: usize,
+        weights: *const u64,
+        weights_length: usize,
+        parts: *mut u32,
+        parts_length: usize,
+        order: *mut u32,
+        order_length: usize,
+    ) -> u32;
 }

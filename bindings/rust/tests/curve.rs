@@ -2,7 +2,10 @@
 use skarvolm::{deposit, HilbertCurve, Refused};
 
 fn of_order(order: u32) -> HilbertCurve {
-    HilbertCurve { order }
+    HilbertCurve {
+        order,
+        ..Default::default()
+    }
 }
 
 #[test]

@@ -2,6 +2,7 @@
 // and one for the numbers of its first part. So `encode_2d 1 0 1 = ..` is 213.
 //
 // A call that answers a few numbers answers an array: how many there are, and the numbers.
+use crate::along;
 use crate::axes::cell;
 use crate::axes::extent_of;
 use crate::curves::decode_2d;
@@ -37,7 +38,7 @@ fn with_digit(number: u64, digit: u64) -> u64 {
 // The number that tells a request; one that is not ended has no parts.
 fn request_of(name: &[u8], sheet: &[u64; 331776]) -> u64 {
     let call = number_in(
-        b"deposit encode_2d encode_3d decode_2d decode_3d cell cell_flat cell_sloped extent_of rcb_2d rcb_3d index_2d index_3d index_2d_in index_3d_in halve_2d halve_3d",
+        b"deposit encode_2d encode_3d decode_2d decode_3d cell cell_flat cell_sloped extent_of rcb_2d rcb_3d index_2d index_3d index_2d_in index_3d_in halve_2d halve_3d parts_along",
         name,
     );
     if sheet[WANTED] == 0 {
@@ -94,6 +95,7 @@ pub(crate) fn call(name: &[u8], sheet: &mut [u64; 331776]) {
         1240 | 1241 | 1445 => points::index(request, 7, sheet),
         1350 | 1351 | 1557 => points::index(request, 8, sheet),
         1645 | 1746 => grids::rcb(1, sheet),
+        1851 => along::parts_along(sheet),
         _ => call_few(request, sheet),
     }
 }

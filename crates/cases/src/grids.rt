@@ -21,7 +21,7 @@ const SPLITS: usize = 6;
 const IDS: usize = 7;
 
 // Puts the numbers of a part into a room; how many there are room for.
-fn narrowed(sheet: &[u64], said: usize, room: &mut [u32; 65536]) -> usize
+pub(crate) fn narrowed(sheet: &[u64], said: usize, room: &mut [u32; 65536]) -> usize
     requires { ⌜ said < 15 ⌝ }
 {
     let part = numbers_at(sheet, said);
@@ -39,7 +39,7 @@ fn wide(x: u32) -> u64 {
 }
 
 // Puts as many numbers of a room on the sheet as a part has, and none where the part had no room, so that no case agrees with that.
-fn put_first(room: &[u32; 65536], said: usize, sheet: &mut [u64; 331776])
+pub(crate) fn put_first(room: &[u32; 65536], said: usize, sheet: &mut [u64; 331776])
     requires { ⌜ said < 15 ⌝ }
 {
     let n = numbers_at(sheet, said).len();

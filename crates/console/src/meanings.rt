@@ -35,7 +35,7 @@ low above high, a value outside low to high, or a made-up axis record
 a side is 0 or over 1,024, or there are over 65,536 cells
 depth over 12
 a weight over 16,777,215
-
+a part count of 0 or over 1,024, or over 65,536 points
 the edition is neither 1 nor 2
 the first axis is not one of the grid's
 ",

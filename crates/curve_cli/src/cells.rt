@@ -1,9 +1,10 @@
 // A line for each index: the index, its cell, and where the box is known the range of each coordinate.
 use crate::list::Setting;
-use crate::noted;
 use crate::ranges::put_range;
+use knot_rows::ends::of_words;
 use rules::Cell2;
 use rules::Cell3;
+use whole_files::noted;
 use words::status::of_output;
 
 // Puts a coordinate of a cell.
@@ -102,9 +103,17 @@ fn ends_of(solid: bool) -> usize {
     4
 }
 
+// Whether the list says the box of so many ends, which are then put where they belong.
+fn box_of(note: &[u8], count: usize, ends: &mut [f64; 6]) -> bool {
+    if !noted::known(note) {
+        return false;
+    }
+    of_words(note, noted::BOX, count, ends) == 6
+}
+
 // Prints the cells of n indices.
 pub(crate) fn print(indices: &[u64; 65536], n: usize, setting: Setting, note: &[u8]) -> u8 {
     let mut ends = [0.0f64; 6];
-    let boxed = noted::box_of(note, ends_of(setting.solid), &mut ends);
+    let boxed = box_of(note, ends_of(setting.solid), &mut ends);
     print_all(indices, n, setting, boxed, &ends)
 }

@@ -1,15 +1,14 @@
 // cells: reads a list of indices, which may say its order, dimension and box, and prints their cells.
 use crate::cells;
-use crate::noted;
 use console::faults;
 use console::faults::say_all;
 use console::files;
 use console::files::Size;
-use console::lines::field_of;
 use console::lines::first_line;
 use console::lines::line_end;
-use console::lines::part;
 use fields::separator_of;
+use whole_files::noted;
+use whole_files::noted::headed;
 use whole_files::row::Limit;
 use words::number_of;
 use words::same;
@@ -83,12 +82,6 @@ fn limit_of(setting: Setting) -> Limit {
     }
 }
 
-// Whether the first line with a field is a header whose first column is the index.
-fn headed(text: &[u8], first: usize, separator: u8) -> bool {
-    let field = field_of(text, first, separator, 0);
-    same(part(text, field.start, field.end), b"index")
-}
-
 // Reads the indices from `first` on, all on a line or the first `most`, and prints their cells.
 fn decode(
     path: &[u8],
@@ -145,6 +138,9 @@ fn decode_list(path: &[u8], text: &[u8], setting: Setting, note: &[u8]) -> u8 {
 // Decodes a text as the command and the text itself say.
 fn decode_text(line: &[u8], text: &[u8], note: &[u8]) -> u8 {
     let path = word(line, 2);
+    if noted::of_parts(path, note) {
+        return FAILED;
+    }
     if contradicts(line, note) {
         faults::of(path, b"its first line says another order or dimension");
         return FAILED;

@@ -4,7 +4,6 @@
 // the dimension. What is not asked for is an empty word.
 mod cells;
 mod list;
-mod noted;
 mod picture;
 mod ranges;
 

@@ -7,7 +7,7 @@ use Rattle.rules.specs.Sums.{total}
 use Rattle.rules.specs.Grid.{weight, line}
 use Rattle.rules.specs.Refusals.{topSide}
 use Rattle.rules.specs.Halving.{editionOf, cutAt}
-use Rattle.halving_laws.proofs.Totals.{total-ext}
+use Rattle.laws.proofs.Totals.{total-ext}
 use Rattle.halving_laws.proofs.Reach.{cut-ext, cut-inside}
 use Rattle.halving_laws.proofs.Nested.{line-is-thin}
 use Rattle.halving_laws.proofs.Weights.{left-plus-right, lines-before}

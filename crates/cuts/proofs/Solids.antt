@@ -9,7 +9,7 @@ use Rattle.rules.specs.Sums.{total, list}
 use Rattle.rules.specs.Refusals.{topSide}
 use Rattle.laws.proofs.Lists.{length-list, list-ext, getD-list}
 use Rattle.rules.specs.Grid.{Range, weight}
-use Rattle.halving_laws.proofs.Totals.{total-ext}
+use Rattle.laws.proofs.Totals.{total-ext}
 use Rattle.halving_laws.proofs.Reach.{cut-ext}
 use Rattle.halving_laws.proofs.Nested.{nest, nest-end}
 use Rattle.lines.specs.Stacks.{runSum, sheetSum, solidSum, lineOf, SolidFits, LinesFit}

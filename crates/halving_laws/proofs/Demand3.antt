@@ -9,7 +9,7 @@ use Rattle.rules.specs.Halving.{editionOf, uncut, Halving, halving2, halving3, 
 use Rattle.rules.specs.Demands.{Demand3Of, Demand3In2D, Demand3In3D}
 use Rattle.halving_laws.specs.Fair.{FairTree, Structured}
 use Rattle.halving_laws.specs.Accepted.{Accepted}
-use Rattle.halving_laws.proofs.Totals.{total-le}
+use Rattle.laws.proofs.Totals.{total-le}
 use Rattle.halving_laws.proofs.Blocks.{whole-length, whole-below}
 use Rattle.halving_laws.proofs.Editions.{edition-limits}
 use Rattle.halving_laws.proofs.FairCut.{Limits}

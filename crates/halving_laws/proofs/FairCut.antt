@@ -15,7 +15,7 @@ use Rattle.rules.specs.Grid.{Block, edge, side, before, weight, line, heaviest}
 use Rattle.rules.specs.Halving.{reach, settle, cutOf}
 use Rattle.rules.specs.Halving.{Edition, cutAt}
 use Rattle.halving_laws.specs.Fair.{FairCut}
-use Rattle.halving_laws.proofs.Totals.{total-le}
+use Rattle.laws.proofs.Totals.{total-le}
 use Rattle.halving_laws.proofs.Weights.{lines-before, lines-all, line-at-most-heaviest}
 use Rattle.halving_laws.proofs.Reach.{reach-le, reach-below, reach-hit}
 

@@ -13,7 +13,7 @@ use Rattle.rules.specs.Grid.{cells, coords, on, Block, whole, inside, before, a
 use Rattle.rules.specs.Halving.{nextAxis, cut, turn, walk, idOf, idsOf}
 use Rattle.halving_laws.specs.Nodes.{choose, leaf, blockOf}
 use Rattle.rules.specs.Demands.{partWeight}
-use Rattle.halving_laws.proofs.Totals.{total-ext, total-one, total-swap, where-ext}
+use Rattle.laws.proofs.Totals.{total-ext, total-one, total-swap, where-ext}
 use Rattle.laws.proofs.Lists.{getD-list}
 use Rattle.halving_laws.proofs.Blocks.{same-test, whole-length, before-length, after-length, inside-whole, inside-before, inside-after}
 

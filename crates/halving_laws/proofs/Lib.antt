@@ -1,4 +1,3 @@
-pub mod Totals
 pub mod Blocks
 pub mod Weights
 pub mod Reach

@@ -11,7 +11,7 @@ use lib.ListN.{getD, length}
 use borrow.Author.Tests.{le-leb, lt-leb, lt-ltb, le-ltb, ltb-true, ltb-false, eq-eqb, eqb-true, not-true}
 use Rattle.rules.specs.Sums.{pick, total, sumWhere}
 use Rattle.rules.specs.Grid.{cells, coords, on, Range, Block, inside, within, before, after, weight, line}
-use Rattle.halving_laws.proofs.Totals.{total-ext, total-split, total-zero, where-ext}
+use Rattle.laws.proofs.Totals.{total-ext, total-split, total-zero, where-ext}
 use Rattle.halving_laws.proofs.Blocks.{both, same-test, before-length, inside-before, inside-after}
 
 -- a sum over a table, row by row

@@ -9,7 +9,7 @@ use mathlib.Core.Logic.{_⊎_, inl, inr, ⊎-elim}
 use lib.Dec.{leb, ltb}
 use borrow.Author.Tests.{le-leb, lt-leb, leb-true, leb-false, le-ltb, lt-ltb}
 use Rattle.rules.specs.Sums.{pick, total}
-use Rattle.halving_laws.proofs.Totals.{total-ext}
+use Rattle.laws.proofs.Totals.{total-ext}
 use Rattle.rules.specs.Halving.{reach, settle, cutOf}
 
 -- the place found is j + n at the latest

@@ -24,12 +24,11 @@ use rules::REFUSED_WEIGHT;
 use rules::TOP_CELLS;
 use rules::TOP_DEPTH;
 use rules::TOP_SIDE;
-use rules::TOP_WEIGHT;
 ghost use mathlib.Core.Path.{_≡_};
 ghost use Prim.Native.Nat.{_≤_, _-_, _^_};
 ghost use mathlib.Core.Bool.{_||_};
 ghost use mathlib.Core.List.{[], _∷_};
-ghost use Rattle.rules.specs.Refusals.{topDepth, firstOf, editionUnknown, sideUnfit, sidesUnfit, lengthsOff, weightOver, gridTests};
+ghost use Rattle.rules.specs.Refusals.{topDepth, firstOf, editionUnknown, sideUnfit, sidesUnfit, lengthsOff, gridTests};
 ghost use Rattle.rules.specs.Halving.{halving2, halving3, refusalOf};
 ghost use Rattle.blocks.specs.Blocks.{threeAxes, sidesOf};
 
@@ -83,18 +82,6 @@ fn lengths_off(cells: usize, depth: u32, weights: usize, ids: usize, splits: usi
     splits != (1usize << depth) - 1
 }
 
-// Whether a weight is too heavy.
-fn weight_over(weights: &[u64]) -> bool
-    ensures { λ r. ⌜ r ≡ weightOver (now (weights .entry)) ⌝ }
-{
-    for i in 0..weights.len() {
-        if weights[i] > TOP_WEIGHT {
-            return true;
-        }
-    }
-    false
-}
-
 // The number of refusal of an edition and a grid with `depth` levels from the first of so many axes on, its weights, and so many ids and splits.
 fn refusal(
     edition: u32,
@@ -124,7 +111,7 @@ fn refusal(
     if lengths_off(cells, depth, weights.len(), ids, splits) {
         return REFUSED_LENGTHS;
     }
-    if weight_over(weights) {
+    if weights::weight_over(weights) {
         return REFUSED_WEIGHT;
     }
     ANSWERED

@@ -1,4 +1,5 @@
 // The columns that hold the coordinates.
+use console::faults;
 use console::lines::field_of;
 use console::lines::fields_on;
 use console::lines::part;
@@ -95,4 +96,14 @@ pub fn place_of(text: &[u8], at: usize, separator: u8, word: &[u8]) -> usize
         return column;
     }
     named(text, at, separator, word)
+}
+
+// Says that a word names no column.
+pub fn say_unknown(word: &[u8])
+    ensures { λ _. ⊤ₛ }
+{
+    faults::of(
+        word,
+        b"no column of the file's first line has this name or number",
+    );
 }

@@ -68,11 +68,11 @@ pub fn unknown(columns: Columns) -> usize
     3
 }
 
-// How a text is laid out whose first line with a field begins at `head`.
-pub fn layout_of(text: &[u8], head: usize, separator: u8, columns: Columns) -> Layout
+// How a text is laid out whose first line with a field begins at `head`, and is a header or not.
+pub fn layout_by(text: &[u8], head: usize, separator: u8, headed: bool) -> Layout
     ensures { λ _. ⊤ₛ }
 {
-    if !is_header(text, head, separator, columns) {
+    if !headed {
         return Layout {
             separator,
             head,
@@ -84,6 +84,18 @@ pub fn layout_of(text: &[u8], head: usize, separator: u8, columns: Columns) -> L
         head,
         first: first_line(text, line_end(text, head), separator),
     }
+}
+
+// How a text of knots is laid out whose first line with a field begins at `head`.
+pub fn layout_of(text: &[u8], head: usize, separator: u8, columns: Columns) -> Layout
+    ensures { λ _. ⊤ₛ }
+{
+    layout_by(
+        text,
+        head,
+        separator,
+        is_header(text, head, separator, columns),
+    )
 }
 
 // The columns that were chosen, or else the first ones, as many as the first line of numbers has.

@@ -4,4 +4,4 @@
 pub mod asked;
 pub mod lines;
 pub mod notes;
-mod places;
+pub mod places;

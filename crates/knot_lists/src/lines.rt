@@ -1,6 +1,7 @@
 // The list of indices: what it is, the header, and each knot's line behind its index.
 use crate::asked;
 use crate::notes;
+use crate::places::number_at;
 use crate::places::place_of;
 use console::lines::line_end;
 use console::lines::part;
@@ -26,17 +27,12 @@ fn sort(indices: &[u64], n: usize, points: &mut [u32], work: &mut [u32]) {
     sort::in_order(&indices[..n], &mut points[..n], &mut work[..n]);
 }
 
-// The index of the point that stands at place `i` of the order.
-fn index_at(indices: &[u64; 65536], points: &[u32; 65536], i: usize) -> u64 {
-    indices[place_of(points, i) % 65536]
-}
-
 // How many of the sorted points share the index of the one before them.
 fn shared(indices: &[u64; 65536], points: &[u32; 65536], n: usize) -> u64 {
     let mut count: u64 = 0;
     for i in 0..65535usize {
         if i + 1 < n {
-            if index_at(indices, points, i) == index_at(indices, points, i + 1) {
+            if number_at(indices, points, i) == number_at(indices, points, i + 1) {
                 count = std::num::wrapping_add_u64(count, 1);
             }
         }
@@ -68,16 +64,24 @@ fn put_line(buffer: &mut [u8; 4096], at: usize, separator: u8, text: &[u8], star
     printing::byte(buffer, b, b'\n')
 }
 
-// Puts the header behind the name of the indices' column, where there is one.
-fn put_header(buffer: &mut [u8; 4096], at: usize, text: &[u8], layout: Layout) -> usize {
+// Puts the header behind the name of the column that comes before it, where there is one.
+pub fn put_header(
+    buffer: &mut [u8; 4096],
+    at: usize,
+    name: &[u8],
+    text: &[u8],
+    layout: Layout,
+) -> usize
+    ensures { λ _. ⊤ₛ }
+{
     if layout.head == layout.first {
         return at;
     }
-    let next = printing::bytes(buffer, at, b"index");
+    let next = printing::bytes(buffer, at, name);
     put_line(buffer, next, layout.separator, text, layout.head)
 }
 
-// Puts a point's line behind its index.
+// Puts a point's line behind its number.
 fn put_point(
     buffer: &mut [u8; 4096],
     at: usize,
@@ -85,9 +89,9 @@ fn put_point(
     separator: u8,
     point: usize,
     starts: &[u32; 65536],
-    indices: &[u64; 65536],
+    numbers: &[u64; 65536],
 ) -> usize {
-    let next = printing::number(buffer, at, indices[point % 65536]);
+    let next = printing::number(buffer, at, numbers[point % 65536]);
     put_line(buffer, next, separator, text, place_of(starts, point))
 }
 
@@ -99,8 +103,8 @@ fn point_of(i: usize, sorted: bool, points: &[u32; 65536]) -> usize {
     i
 }
 
-// Puts the lines of n points.
-fn put_points(
+// Puts the lines of n points, each behind its number.
+pub fn put_points(
     buffer: &mut [u8; 4096],
     at: usize,
     text: &[u8],
@@ -109,13 +113,15 @@ fn put_points(
     sorted: bool,
     points: &[u32; 65536],
     starts: &[u32; 65536],
-    indices: &[u64; 65536],
-) -> usize {
+    numbers: &[u64; 65536],
+) -> usize
+    ensures { λ _. ⊤ₛ }
+{
     let mut next = at;
     for i in 0..65536usize {
         if i < n {
             let point = point_of(i, sorted, points);
-            next = put_point(buffer, next, text, separator, point, starts, indices);
+            next = put_point(buffer, next, text, separator, point, starts, numbers);
         }
     }
     next
@@ -151,7 +157,7 @@ pub fn print(
             starts,
         );
     }
-    at = put_header(&mut buffer, at, text, layout);
+    at = put_header(&mut buffer, at, b"index", text, layout);
     at = put_points(
         &mut buffer,
         at,

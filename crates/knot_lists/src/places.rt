@@ -5,6 +5,15 @@ fn wide(n: u32) -> usize {
 }
 
 // The place that is kept for number `i`.
-pub(crate) fn place_of(places: &[u32; 65536], i: usize) -> usize {
+pub fn place_of(places: &[u32; 65536], i: usize) -> usize
+    ensures { λ _. ⊤ₛ }
+{
     wide(places[i % 65536])
+}
+
+// What is kept, of an index or another number, for the point that stands at place `i` of an order.
+pub fn number_at(numbers: &[u64; 65536], points: &[u32; 65536], i: usize) -> u64
+    ensures { λ _. ⊤ₛ }
+{
+    numbers[place_of(points, i) % 65536]
 }

@@ -1,10 +1,10 @@
 // The knots of a text, read and handed on.
 use crate::index;
-use console::faults;
 use console::faults::say_all;
 use console::lines::first_line;
 use fields::separator_of;
 use knot_columns::columns::Columns;
+use knot_columns::columns::say_unknown;
 use knot_files::layout;
 use knot_files::layout::Layout;
 use knot_files::layout::check;
@@ -18,11 +18,7 @@ use words::word;
 
 // Says that a word names no column.
 fn no_column(line: &[u8], axis: usize) -> u8 {
-    let name = word(line, std::num::wrapping_add_usize(asked::COLUMNS, axis));
-    faults::of(
-        name,
-        b"no column of the file's first line has this name or number",
-    );
+    say_unknown(word(line, std::num::wrapping_add_usize(asked::COLUMNS, axis)));
     FAILED
 }
 

@@ -6,7 +6,7 @@ use mathlib.Core.Path.{_≡_}
 use mathlib.Core.List.{List}
 use lib.ListN.{getD, length}
 use Rattle.rules.specs.Refusals.{topWeight}
-use Rattle.halving_laws.proofs.Totals.{total-more, total-le}
+use Rattle.laws.proofs.Totals.{total-more, total-le}
 use Rattle.lines.specs.Stacks.{runSum, sheetSum, solidSum, Light, RunFits, SheetFits}
 use Rattle.lines.specs.declared.Stack.{Stack}
 

@@ -1,1 +1,3 @@
 pub mod Merged
+pub mod Accepted
+pub mod Passing

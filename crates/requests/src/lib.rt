@@ -2,8 +2,15 @@
 // each request means stands in specs/:
 //
 //   Order   points in the order of their indices
+//   Parts   parts along the curve (1/14)
 //
-// There is no function here.
+// There is no function here, and no proof but that of some cases (proofs/PartsCases.antt).
 
-// The most points that are put in order.
+// The most points that are put in order or given parts.
 pub const TOP_POINTS: u32 = 65536;
+
+// The most parts.
+pub const TOP_PARTS: u32 = 1024;
+
+// The number of refusal of no part or too many, or of too many points.
+pub const REFUSED_COUNTS: u32 = 12;

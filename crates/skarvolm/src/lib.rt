@@ -8,6 +8,7 @@ ghost use lib.ListN.{getD};
 ghost use Rattle.rules.specs.Refusals.{readCoded, readCell2, readCell3, readCell};
 ghost use Rattle.rules.specs.Curve.{depositOf, encode2, encode3, decode2, decode3};
 ghost use Rattle.rules.specs.Knots.{indexAll2, indexAll3};
+ghost use Rattle.requests.specs.Parts.{partsAlong};
 ghost use Rattle.axis_out.specs.Cells.{cellBetween};
 ghost use Rattle.skarvolm.specs.Calls.{in2, in3, rcb2, rcb3, halve2, halve3};
 use rules::Extent;
@@ -248,4 +249,20 @@ pub extern "C" fn skarvolm_halve_3d(
         depth,
     };
     halving::rcb_3d(halving, weights, splits, ids)
+}
+
+// The parts of points along the curve, and the points in order.
+#[no_mangle]
+pub extern "C" fn skarvolm_parts(
+    n: u32,
+    indices: &[u64],
+    weights: &[u64],
+    parts: &mut [u32],
+    order: &mut [u32],
+) -> u32
+    ensures number { λ r. ⌜ r ≡ partsAlong n (now (indices .entry)) (now (weights .entry)) (now (parts .entry)) (now (order .entry)) .number ⌝ }
+    ensures parts { λ _. ⌜ now (parts .exit) ≡ partsAlong n (now (indices .entry)) (now (weights .entry)) (now (parts .entry)) (now (order .entry)) .parts ⌝ }
+    ensures order { λ _. ⌜ now (order .exit) ≡ partsAlong n (now (indices .entry)) (now (weights .entry)) (now (parts .entry)) (now (order .entry)) .order ⌝ }
+{
+    parts::parts_along(n, indices, weights, parts, order)
 }

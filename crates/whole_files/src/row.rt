@@ -41,8 +41,8 @@ fn take(word: &[u8], limit: Limit, numbers: &mut [u64; 65536], place: usize) -> 
     0
 }
 
-// Reads the field from `start` to before `end`.
-fn read_field(
+// Reads the field from `start` to before `end` as the number of a place.
+pub fn read_field(
     text: &[u8],
     start: usize,
     end: usize,
@@ -50,7 +50,9 @@ fn read_field(
     numbers: &mut [u64; 65536],
     place: usize,
     faults: &mut [usize; 61],
-) {
+)
+    ensures { λ _. ⊤ₛ }
+{
     let what = take(part(text, start, end), limit, numbers, place);
     if what != 0 {
         note(faults, what, start, end);

@@ -9,7 +9,7 @@ use lib.ListN.{getD}
 use borrow.Author.Needs.{needs}
 use Rattle.rules.specs.Sums.{total}
 use Rattle.rules.specs.Halving.{reach, settle, cutOf}
-use Rattle.halving_laws.proofs.Totals.{total-more}
+use Rattle.laws.proofs.Totals.{total-more}
 use Rattle.halving_laws.proofs.Reach.{reach-found, reach-end, reach-step, settle-short, settle-here, settle-back}
 use Rattle.median.specs.Median.{lineAt, LinesLight, CutIs}
 use Rattle.median.proofs.weighted_median.Statement.{statement}

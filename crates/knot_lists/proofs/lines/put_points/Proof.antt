@@ -5,10 +5,10 @@ use Rattle.knot_lists.proofs.lines.put_points.Statement.{statement}
 use Rattle.knot_lists.proofs.lines.put_points.Tie as tie
 
 abbrev Inv-loop : tie.InvT-loop
-Inv-loop buffer₀ at text separator n sorted points starts indices next₀ i₀ buffer next i = Unit {0}
+Inv-loop buffer₀ at text separator n sorted points starts numbers next₀ i₀ buffer next i = Unit {0}
 
 abbrev μ-loop : tie.MeasureT-loop
-μ-loop buffer₀ at text separator n sorted points starts indices next₀ i₀ buffer next i = 65536 - i
+μ-loop buffer₀ at text separator n sorted points starts numbers next₀ i₀ buffer next i = 65536 - i
 
 pub put-points-spec : {M : Type 1} → statement M
 put-points-spec =

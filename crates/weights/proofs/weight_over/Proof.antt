@@ -12,8 +12,8 @@ use borrow.Author.Needs.{needs}
 use borrow.Author.Tests.{le-ltb, lt-ltb}
 use Rattle.laws.proofs.Any.{any-at, none}
 use Rattle.rules.specs.Refusals.{topWeight}
-use Rattle.halving_tests.proofs.weight_over.Statement.{statement}
-use Rattle.halving_tests.proofs.weight_over.Tie as tie
+use Rattle.weights.proofs.weight_over.Statement.{statement}
+use Rattle.weights.proofs.weight_over.Tie as tie
 
 -- the first i weights are light
 LightTo : List ℕ → ℕ → Type 0
