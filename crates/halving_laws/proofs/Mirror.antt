@@ -17,7 +17,7 @@ use Rattle.laws.proofs.Any.{neither, none}
 use Rattle.laws.proofs.Exactly.{exactly, none-passes}
 use Rattle.laws.proofs.Lists.{length-list, list-ext, getD-list}
 use Rattle.halving_laws.specs.Mirror.{other, mirrorHalving, mirrorCells}
-use Rattle.halving_laws.proofs.Totals.{total-ext, total-swap}
+use Rattle.laws.proofs.Totals.{total-ext, total-swap}
 use Rattle.halving_laws.proofs.Nested.{total-rows, thin, line-is-thin}
 use Rattle.halving_laws.proofs.Accepted.{accepted}
 use Rattle.halving_laws.proofs.Answers.{answered}
