@@ -71,9 +71,9 @@ pub fn halve_2d(
 {
     clear(splits);
     let b = blocks::whole(g);
-    let total = cuts::weight(weights, g, b);
+    let all = cuts::weight(weights, g, b);
     let mut sums = [0u64; 1024];
-    begin_2d(first, weights, g, b, total, depth, splits, &mut sums, edition);
+    begin_2d(first, weights, g, b, all, depth, splits, &mut sums, edition);
     ids::write_ids(ids, splits, depth, 2, first, g.width, g.height, g.height);
 }
 
@@ -124,9 +124,9 @@ pub fn halve_3d(
 {
     clear(splits);
     let b = blocks::whole(g);
-    let total = cuts::weight(weights, g, b);
+    let all = cuts::weight(weights, g, b);
     let mut sums = [0u64; 1024];
-    begin_3d(first, weights, g, b, total, depth, splits, &mut sums, edition);
+    begin_3d(first, weights, g, b, all, depth, splits, &mut sums, edition);
     let rows = g.height * g.layers;
     ids::write_ids(ids, splits, depth, 3, first, g.width, g.height, rows);
 }

@@ -30,7 +30,7 @@ begin-2d-requires c κs =
     let block = weight .before in
     let s = start block in
     let r = s .pre .0 in (
-      r .first-fits,
+      omega (arith, r .first-fits),
       (
         rw (block .whole .ensures) (whole-sound twoAxes (s .args .g) r (s .pre .1) (rw (block .whole .ensures) at (weight .weight .ensures))),
         (root-places twoAxes (s .args .g) r (s .pre .1) (cleared block .clear .kept .0 ∙ r .splits-long), refl),
@@ -44,7 +44,7 @@ write-ids-requires c κs =
     let r = s .pre .0 in
     let f = sides-fit twoAxes (s .args .g) r (s .pre .1) in (
       root-places twoAxes (s .args .g) r (s .pre .1) (cut .begin-2d .kept .1 .1 .1 .1 .1 .1 .0 ∙ cleared (whole cut) .clear .kept .0 ∙ r .splits-long),
-      (record { few = lit≤ tt; axis = r .first-fits }, ((f .0 .0, f .1 .0), ids-long twoAxes (s .args .g) r (s .pre .1) ∙ one-layer-rows (s .args .g) (s .pre .1))),
+      (record { few = lit≤ tt; axis = omega (arith, r .first-fits) }, ((f .0 .0, f .1 .0), ids-long twoAxes (s .args .g) r (s .pre .1) ∙ one-layer-rows (s .args .g) (s .pre .1))),
     )
 
 -- the splits once all cuts are made

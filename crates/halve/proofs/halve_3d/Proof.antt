@@ -31,7 +31,7 @@ begin-3d-requires c κs =
     let block = weight .before in
     let s = start block in
     let r = s .pre .0 in (
-      r .first-fits,
+      omega (arith, r .first-fits),
       (
         rw (block .whole .ensures) (whole-sound threeAxes (s .args .g) r tt (rw (block .whole .ensures) at (weight .weight .ensures))),
         (root-places threeAxes (s .args .g) r tt (cleared block .clear .kept .0 ∙ r .splits-long), refl),
@@ -51,7 +51,7 @@ write-ids-requires c κs =
     let r = s .pre .0 in
     let f = sides-fit threeAxes (s .args .g) r tt in (
       root-places threeAxes (s .args .g) r tt (cut .begin-3d .kept .1 .1 .1 .1 .1 .1 .0 ∙ cleared (whole cut) .clear .kept .0 ∙ r .splits-long),
-      (record { few = lit≤ tt; axis = r .first-fits }, ((f .0 .0, f .1 .0), ids-long threeAxes (s .args .g) r tt)),
+      (record { few = lit≤ tt; axis = omega (arith, r .first-fits) }, ((f .0 .0, f .1 .0), ids-long threeAxes (s .args .g) r tt)),
     )
 
 -- the splits once all cuts are made
