@@ -1,5 +1,5 @@
 -- Every field lies in its text and goes on from where it was looked for: so does what has been met of it, after every byte. Assumes nothing.
-use Prim.Native.Nat.{ℕ, zero, suc, _+_, _-_, _≤_, _<_}
+use Prim.Native.Nat.{ℕ, _+_, _≤_, _<_}
 use mathlib.Core.Path.{_≡_, refl, sym, _∙_}
 use mathlib.Core.Bool.{Bool, true, false, true≢false, cond}
 use mathlib.Core.List.{List}
@@ -8,9 +8,9 @@ use lib.ListN.{getD, length}
 use lib.Dec.{eqb, ltb, leb}
 use borrow.Author.Tests.{ltb-true, leb-true, leb-false}
 use Rattle.separators.specs.Bytes.{isLineEnd, isHash, isQuote}
-use Rattle.separators.specs.Machines.{after, atEnd}
-use Rattle.separators.proofs.Machines.{goes-on, ends}
-use Rattle.fields.specs.Fields.{isBlank, parts, bareByte, bareStep, bareEnd, bareFrom, bareAt, openByte, commentByte, quotedByte, behindByte, fieldByte, fieldStep, fieldEnd, fieldFrom, fieldAt}
+use Rattle.separators.specs.Machines.{atEnd}
+use Rattle.separators.proofs.Machines.{goes-on, ends, holds-at-end}
+use Rattle.fields.specs.Fields.{isBlank, parts, bareByte, bareStep, bareEnd, bareAt, openByte, behindByte, fieldByte, fieldStep, fieldEnd, fieldAt}
 use Rattle.fields.specs.declared.Field.{Field}
 use Rattle.fields.specs.declared.Field.the-variants as field
 use Rattle.fields.specs.declared.Bare.{Bare}
@@ -56,13 +56,6 @@ module _ (separator : ℕ) (t : List ℕ) where
   bare-step-fits start i (Going end) l h = bare-byte-fits start end i (getD t i 0) (λ _. l) (h .0) (h .1)
   bare-step-fits start i (Ended end next) l h = (h .0, h .1, h .2, omega arith)
 
-  bare-after-fits : (start i n : ℕ) (m : Bare) → start < i → BareFits start i m → BareFits start (i + n) (after (bareStep separator) m t i n)
-  unfolding after
-  bare-after-fits start i zero m l h = let e : i + 0 ≡ i = omega arith in rw e h
-  bare-after-fits start i (suc n) m l h =
-      let e : i + suc n ≡ i + 1 + n = omega arith in
-      rw e (bare-after-fits start (i + 1) n (bareStep separator m (getD t i 0) i) (omega arith) (bare-step-fits start i m l h))
-
   bare-end-goes-on : (at start n : ℕ) (m : Bare) → at ≤ start → start < n → BareFits start n m → GoesOn at n (bareEnd n start m)
   unfolding bareEnd
   bare-end-goes-on at start n (Going end) p l h = (p, h .0, h .1, omega arith, omega arith)
@@ -74,14 +67,12 @@ module _ (separator : ℕ) (t : List ℕ) where
   bare-first-fits start line = bare-byte-fits start start start (getD t start 0) (λ e. absurd (true≢false (sym e ∙ line))) (omega arith) (omega arith)
 
   bare-at-fits : (start : ℕ) → start < length t → isLineEnd (getD t start 0) ≡ false → BareFits start (length t) (atEnd (bareStep separator) (Going start) t start)
-  unfolding atEnd
   bare-at-fits start l line =
-      let e : start + 1 + (length t - (start + 1)) ≡ length t = omega arith in
       rw (goes-on (bareStep separator) t (Going start) start l)
-      (rw e at (bare-after-fits start (start + 1) (length t - (start + 1)) (bareStep separator (Going start) (getD t start 0) start) (omega arith) (bare-first-fits start line)))
+      (holds-at-end (bareStep separator) t (λ i m. (start < i) × BareFits start i m) (λ i m h. (omega arith, bare-step-fits start i m (h .0) (h .1))) _ (start + 1) (omega arith) (omega arith, bare-first-fits start line) .1)
 
   bare-goes-on : (at start : ℕ) → at ≤ start → start < length t → isLineEnd (getD t start 0) ≡ false → GoesOn at (length t) (bareAt separator t start)
-  unfolding bareAt bareFrom
+  unfolding bareAt
   bare-goes-on at start p l line = bare-end-goes-on at start (length t) (atEnd (bareStep separator) (Going start) t start) p l (bare-at-fits start l line)
 
   -- what has been met before byte i, where a field was looked for from at on; no bare field begins at a line's end
@@ -125,13 +116,6 @@ module _ (separator : ℕ) (t : List ℕ) where
   step-fits at i (met.Bare start) p h = (h .0, omega arith, h .2)
   step-fits at i (met.Done f) p h = longer at i f h
 
-  after-fits : (at i n : ℕ) (m : Met) → at ≤ i → Fits at i m → Fits at (i + n) (after (fieldStep separator) m t i n)
-  unfolding after
-  after-fits at i zero m p h = let e : i + 0 ≡ i = omega arith in rw e h
-  after-fits at i (suc n) m p h =
-      let e : i + suc n ≡ i + 1 + n = omega arith in
-      rw e (after-fits at (i + 1) n (fieldStep separator m (getD t i 0) i) (omega arith) (step-fits at i m p h))
-
   end-goes-on : (at : ℕ) (m : Met) → at < length t → Fits at (length t) m → GoesOn at (length t) (fieldEnd separator t m)
   unfolding fieldEnd
   end-goes-on at met.Open l h = tt
@@ -143,18 +127,16 @@ module _ (separator : ℕ) (t : List ℕ) where
   end-goes-on at (met.Done f) l h = h
 
   at-end-fits : (at : ℕ) → at < length t → Fits at (length t) (atEnd (fieldStep separator) met.Open t at)
-  unfolding atEnd
   at-end-fits at l =
-      let e : at + (length t - at) ≡ length t = omega arith in
-      rw e at (after-fits at at (length t - at) met.Open (omega arith) tt)
+      holds-at-end (fieldStep separator) t (λ i m. (at ≤ i) × Fits at i m) (λ i m h. (omega arith, step-fits at i m (h .0) (h .1))) met.Open at (omega arith) (omega arith, tt) .1
 
   -- behind the text's end there is no field
   none : (at : ℕ) → length t ≤ at → fieldAt separator t at ≡ field.End
-  unfolding fieldAt fieldFrom fieldEnd
+  unfolding fieldAt fieldEnd
   none at h = rw (ends (fieldStep separator) t met.Open at h)
 
   within : (at : ℕ) → at < length t → GoesOn at (length t) (fieldAt separator t at)
-  unfolding fieldAt fieldFrom
+  unfolding fieldAt
   within at l = end-goes-on at (atEnd (fieldStep separator) met.Open t at) l (at-end-fits at l)
 
   pub field-goes-on : (at : ℕ) → GoesOn at (length t) (fieldAt separator t at)

@@ -1,4 +1,3 @@
-pub mod Reading
 pub mod GoesOn
 pub mod Examples
 pub mod Once

@@ -38,11 +38,8 @@ unfoldable pub bareEnd : ℕ → ℕ → Bare → Field
 bareEnd n start (Going end) = field.Word start end n
 bareEnd n start (Ended end next) = field.Word start end next
 
-unfoldable pub bareFrom : ℕ → List ℕ → ℕ → Bare → ℕ → Field
-bareFrom separator t start met at = bareEnd (length t) start (atEnd (bareStep separator) met t at)
-
 unfoldable pub bareAt : ℕ → List ℕ → ℕ → Field
-bareAt separator t start = bareFrom separator t start (Going start) start
+bareAt separator t start = bareEnd (length t) start (atEnd (bareStep separator) (Going start) t start)
 
 -- one byte more where a field may begin; a separator here has an empty field before it
 abbrev pub openByte : ℕ → ℕ → ℕ → ℕ → Met
@@ -104,9 +101,5 @@ fieldEnd separator t (met.Behind start first end) = field.Word first end (length
 fieldEnd separator t (met.Bare start) = bareAt separator t start
 fieldEnd separator t (met.Done f) = f
 
--- from a place on, after what has been met before it
-unfoldable pub fieldFrom : ℕ → List ℕ → Met → ℕ → Field
-fieldFrom separator t met at = fieldEnd separator t (atEnd (fieldStep separator) met t at)
-
 unfoldable pub fieldAt : ℕ → List ℕ → ℕ → Field
-fieldAt separator t at = fieldFrom separator t met.Open at
+fieldAt separator t at = fieldEnd separator t (atEnd (fieldStep separator) met.Open t at)

@@ -1,4 +1,3 @@
 pub mod Machines
-pub mod Seeking
 pub mod Examples
 pub mod Once

@@ -68,9 +68,5 @@ separatorEnd Gap = 32
 separatorEnd Quoted = 32
 separatorEnd (Found separator) = separator
 
--- from a place on, after what has been met before it
-unfoldable pub separatorFrom : Sought → List ℕ → ℕ → ℕ
-separatorFrom met t at = separatorEnd (atEnd soughtStep met t at)
-
 unfoldable pub separatorOf : List ℕ → ℕ
-separatorOf t = separatorFrom (Blank false) t 0
+separatorOf t = separatorEnd (atEnd soughtStep (Blank false) t 0)
