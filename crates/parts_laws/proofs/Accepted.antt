@@ -1,16 +1,15 @@
 -- A call whose number is 0 passed every test, and what each test says of it then holds; what a call leaves. Assumes nothing.
 use Prim.Native.Nat.{ℕ, zero, suc, _<_}
-use native.Mathlib.Omega.{arith}
 use native.Mathlib.Nat.{pos-of-ne-zero}
 use mathlib.Core.Path.{_≡_, refl}
-use mathlib.Core.Bool.{Bool, true, false, not, _||_}
+use mathlib.Core.Bool.{not, _||_}
 use mathlib.Core.List.{List, [], _∷_}
 use lib.Dec.{eqb, ltb, lit≤}
 use lib.ListN.{length, getD}
 use borrow.Author.Tests.{eqb-true, eqb-false, ltb-false, not-false}
 use Rattle.rules.specs.Refusals.{topWeight, firstOf, sliceBy}
 use Rattle.requests.specs.Order.{topPoints, orderOf}
-use Rattle.requests.specs.Parts.{topParts, countsUnfit, partsTests, partsOf, partsAlong}
+use Rattle.requests.specs.Parts.{topParts, partsTests, partsOf, partsAlong}
 use Rattle.laws.proofs.Any.{neither, none-at}
 use Rattle.laws.proofs.Exactly.{none-passes}
 use Rattle.parts_laws.specs.Accepted.{Accepted}

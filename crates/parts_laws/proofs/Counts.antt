@@ -1,27 +1,20 @@
 -- Counts, smallest values, and the largest value that passes a test. Assumes nothing.
-use Prim.Native.Nat.{ℕ, zero, suc, _+_, _≤_, _<_, min}
+use Prim.Native.Nat.{ℕ, zero, suc, _≤_, _<_, min}
 use native.Mathlib.Omega.{arith}
 use native.Mathlib.Nat.{eq-or-lt-of-le}
 use native.Mathlib.Decide.{decLe}
 use mathlib.Core.Logic.{_⊎_, inl, inr, ⊎-elim}
-use mathlib.Core.Bool.{Bool, true, false, true≢false}
-use mathlib.Core.Path.{_≡_, refl, sym, _∙_}
-use Rattle.rules.specs.Sums.{pick, total}
+use mathlib.Core.Bool.{Bool, true, false}
+use mathlib.Core.Path.{_≡_, refl}
+use Rattle.rules.specs.Sums.{pick, total, top}
 use Rattle.requests.specs.Parts.{count, least}
+use Rattle.laws.proofs.Totals.{top-le}
+use Rattle.parts_laws.proofs.Before.{never}
 
 at-most : {i n : ℕ} → i < suc n → i ≤ n
 at-most h = omega arith
 
 -- COUNTS
-
-pub count-bound : (t : ℕ → Bool) (n : ℕ) → count t n ≤ n
-unfolding total pick
-count-bound t zero = omega arith
-count-bound t (suc n) = go (t n) (count-bound t n)
-  where
-    go : (b : Bool) → count t n ≤ n → count t n + pick b 1 0 ≤ suc n
-    go true h = omega arith
-    go false h = omega arith
 
 -- the first k pass and the others do not: there are k
 pub count-is : (t : ℕ → Bool) (k n : ℕ) → k ≤ n → ((i : ℕ) → i < k → t i ≡ true) → ((i : ℕ) → k ≤ i → i < n → t i ≡ false) → count t n ≡ k
@@ -92,53 +85,45 @@ module _ (t : ℕ → Bool) (f : ℕ → ℕ) (d : ℕ) where
       go true e q = low (f n) (least t f d n) (g n (omega arith) e) q (decLe (f n) (least t f d n))
       go false e q = q
 
+-- LARGEST VALUES
+
+-- the largest is one of them
+pub top-present : (f : ℕ → ℕ) (n : ℕ) → 0 < n → (p : ℕ) × (p < n) × (f p ≡ top f n)
+unfolding top
+top-present f zero h = absurd (omega arith)
+top-present f (suc zero) h = (0, omega arith, omega arith)
+top-present f (suc (suc n)) h = go (top-present f (suc n) (omega arith)) (decLe (top f (suc n)) (f (suc n)))
+  where
+    go : (p : ℕ) × (p < suc n) × (f p ≡ top f (suc n)) → Dec (top f (suc n) ≤ f (suc n)) → (p : ℕ) × (p < suc (suc n)) × (f p ≡ top f (suc (suc n)))
+    go t (yes l) = (suc n, omega arith, omega arith)
+    go t (no l) = (t .0, omega (arith, t .1), omega (arith, t .2))
+
 -- the number below n that passes a test and has the largest value
 pub record Best (t : ℕ → Bool) (f : ℕ → ℕ) (n b : ℕ) : Type 0 where
   pub inside : b < n
   pub passes : t b ≡ true
   pub largest : (c : ℕ) → c < n → t c ≡ true → f c ≤ f b
 
-pub best : (t : ℕ → Bool) (f : ℕ → ℕ) (n : ℕ) → ((c : ℕ) → c < n → t c ≡ false) ⊎ ((b : ℕ) × Best t f n b)
-best t f zero = inl (λ c l. absurd (omega arith))
-best t f (suc n) = go (t n) refl (best t f n)
-  where
-    up : (P : ℕ → Type 0) (c : ℕ) → c < suc n → (c < n → P c) → P n → P c
-    up P c l a b = ⊎-elim (λ (z : c ≡ n). rw z b) a (eq-or-lt-of-le (at-most l))
+module _ (t : ℕ → Bool) (f : ℕ → ℕ) where
+  -- it has the largest rank, where what fails has the lowest
+  rank : ℕ → ℕ
+  rank c = pick (t c) (suc (f c)) 0
 
-    more : t n ≡ true → (b : ℕ) → Best t f n b → Dec (f n ≤ f b) → (b : ℕ) × Best t f (suc n) b
-    more e b o (yes l) = (
-      b,
-      record {
-        inside = omega (arith, o .inside);
-        passes = o .passes;
-        largest = λ c h. up (λ c. t c ≡ true → f c ≤ f b) c h (o .largest c) (λ z. l);
-      },
-    )
-    more e b o (no l) = (
-      n,
-      record {
-        inside = omega arith;
-        passes = e;
-        largest = λ c h. up (λ c. t c ≡ true → f c ≤ f n) c h (λ m z. omega (arith, o .largest c m z)) (λ z. omega arith);
-      },
-    )
+  rank-is : (c : ℕ) (b : Bool) → t c ≡ b → rank c ≡ pick b (suc (f c)) 0
+  unfolding rank
+  rank-is c b e = rw e
 
-    alone : t n ≡ true → ((c : ℕ) → c < n → t c ≡ false) → Best t f (suc n) n
-    alone e g = record {
-      inside = omega arith;
-      passes = e;
-      largest = λ c h. up (λ c. t c ≡ true → f c ≤ f n) c h (λ m z. absurd (true≢false (sym z ∙ g c m))) (λ z. omega arith);
-    }
+  pub best : (n : ℕ) → ((c : ℕ) → c < n → t c ≡ false) ⊎ ((b : ℕ) × Best t f n b)
+  unfolding pick
+  best zero = inl (λ c l. absurd (omega arith))
+  best (suc n) = go (top-present rank (suc n) (omega arith))
+    where
+      go : (b : ℕ) × (b < suc n) × (rank b ≡ top rank (suc n)) → ((c : ℕ) → c < suc n → t c ≡ false) ⊎ ((b : ℕ) × Best t f (suc n) b)
+      go b = by (t (b .0)) refl
+        where
+          at-most-it : (c : ℕ) → c < suc n → t c ≡ true → suc (f c) ≤ rank (b .0)
+          at-most-it c l z = omega (arith, top-le rank (suc n) c l, rank-is c true z, b .2)
 
-    kept : t n ≡ false → (b : ℕ) → Best t f n b → Best t f (suc n) b
-    kept e b o = record {
-      inside = omega (arith, o .inside);
-      passes = o .passes;
-      largest = λ c h. up (λ c. t c ≡ true → f c ≤ f b) c h (o .largest c) (λ z. absurd (true≢false (sym z ∙ e)));
-    }
-
-    go : (b : Bool) → t n ≡ b → ((c : ℕ) → c < n → t c ≡ false) ⊎ ((b : ℕ) × Best t f n b) → ((c : ℕ) → c < suc n → t c ≡ false) ⊎ ((b : ℕ) × Best t f (suc n) b)
-    go true e (inl g) = inr (n, alone e g)
-    go true e (inr o) = inr (more e (o .0) (o .1) (decLe (f n) (f (o .0))))
-    go false e (inl g) = inl (λ c l. up (λ c. t c ≡ false) c l (g c) e)
-    go false e (inr o) = inr (o .0, kept e (o .0) (o .1))
+          by : (p : Bool) → t (b .0) ≡ p → ((c : ℕ) → c < suc n → t c ≡ false) ⊎ ((b : ℕ) × Best t f (suc n) b)
+          by true e = inr (b .0, record { inside = b .1; passes = e; largest = λ c l z. omega (arith, at-most-it c l z, rank-is (b .0) true e) })
+          by false e = inl (λ c l. never (t c) (λ z. omega (arith, at-most-it c l z, rank-is (b .0) false e)))

@@ -3,20 +3,17 @@ use Prim.Native.Nat.{ℕ, zero, suc, _+_, _-_, _*_, _≤_, _<_}
 use native.Mathlib.Omega.{arith}
 use native.Mathlib.Nat.{mul-le-mul-left, mul-le-mul-right, mul-add, suc-mul, zero-mul}
 use native.Mathlib.Decide.{decLe, decLt}
-use mathlib.Core.Logic.{⊎-elim}
-use mathlib.Core.Bool.{Bool, true, false, _&&_, not}
-use mathlib.Core.Path.{_≡_, refl, ap, ap₂, sym, _∙_}
+use mathlib.Core.Path.{_≡_, ap, sym, _∙_}
 use mathlib.Core.List.{List}
 use lib.ListN.{length}
 use lib.Dec.{leb, ltb, eqb}
-use borrow.Author.Tests.{lt-ltb, le-ltb, le-leb, lt-leb, ltb-true, ltb-false, leb-true, eq-eqb, ne-eqb}
+use borrow.Author.Tests.{lt-ltb, le-ltb, le-leb, lt-leb, ltb-true, ltb-false, ne-eqb}
 use Rattle.rules.specs.Sums.{pick, total, sumWhere}
 use Rattle.requests.specs.Order.{at}
 use Rattle.requests.specs.Parts.{weightAll, weightTo, heaviestOn, split, partAt, partsOf, weightIn, FairParts}
-use Rattle.laws.proofs.Totals.{total-ext, total-swap, total-one, where-ext, where-none, where-mono, where-split}
+use Rattle.laws.proofs.Totals.{total-ext, total-swap, total-one, where-ext, where-none, where-mono}
 use Rattle.laws.proofs.Lists.{getD-list}
-use Rattle.parts_laws.proofs.Counts.{best, Best}
-use Rattle.parts_laws.proofs.Splits.{under-plus-on, to-at-most, to-is, weightUnder, under-at-most, under-none, on-at-most, split-enough, split-first, part-cut}
+use Rattle.parts_laws.proofs.Splits.{where-at-most, under-plus-on, split-enough, split-not-over, part-cut}
 
 module _ (n : ℕ) (ix ws : List ℕ) where
   -- the part of a point
@@ -37,67 +34,42 @@ module _ (n : ℕ) (ix ws : List ℕ) where
   unfolding before alone with-it
   together = under-plus-on part (at ws) (length ix)
 
-  -- an index not above split i has less than i parts of weight below it
-  under-split : (i x : ℕ) → x ≤ split n ix ws i → n * weightUnder ix ws x ≤ i * weightAll ix ws
-  under-split i x h = ⊎-elim none some (best (λ p. ltb (at ix p) x) (at ix) (length ix))
-    where
-      none : ((p : ℕ) → p < length ix → ltb (at ix p) x ≡ false) → n * weightUnder ix ws x ≤ i * weightAll ix ws
-      none f = let e : n * weightUnder ix ws x ≤ n * 0 = mul-le-mul-left n (omega (arith, under-none ix ws x f)) in omega arith
-
-      some : (b : ℕ) × Best (λ p. ltb (at ix p) x) (at ix) (length ix) b → n * weightUnder ix ws x ≤ i * weightAll ix ws
-      some b = go (decLe (i * weightAll ix ws) (n * weightTo ix ws (at ix (b .0))))
-        where
-          less : n * weightUnder ix ws x ≤ n * weightTo ix ws (at ix (b .0))
-          less = mul-le-mul-left n (under-at-most ix ws x (at ix (b .0)) (λ p l g. b .1 .largest p l (lt-ltb _ _ g)))
-
-          go : Dec (i * weightAll ix ws ≤ n * weightTo ix ws (at ix (b .0))) → n * weightUnder ix ws x ≤ i * weightAll ix ws
-          go (yes g) = absurd (omega (arith, split-first n ix ws i (b .0) (b .1 .inside) g, ltb-true (at ix (b .0)) x (b .1 .passes)))
-          go (no g) = omega (arith, less)
-
-  under-at-most-all : (x : ℕ) → weightUnder ix ws x ≤ weightAll ix ws
-  under-at-most-all x = omega (arith, to-is ix ws x, to-at-most ix ws x)
-
-  up-to : (k b : ℕ) → Best (λ p. leb (part p) k) (at ix) (length ix) b → with-it k ≤ weightTo ix ws (at ix b)
+  -- the parts up to k are the points at or below split k + 1
+  up-to : (k : ℕ) → k < n - 1 → with-it k ≡ weightTo ix ws (split n ix ws (suc k))
   unfolding with-it weightTo
-  up-to k b o = where-mono (at ws) (length ix) _ _ (λ p l e. le-leb _ _ (o .largest p l e))
-
-  none-up-to : (k : ℕ) → ((p : ℕ) → p < length ix → leb (part p) k ≡ false) → with-it k ≡ 0
-  unfolding with-it
-  none-up-to k f = where-none (at ws) (length ix) _ f
-
-  -- the parts up to k have at most k + 1 shares and one index more
-  upper : (k : ℕ) → n * with-it k ≤ suc k * weightAll ix ws + n * heaviestOn ix ws
-  upper k = ⊎-elim none some (best (λ p. leb (part p) k) (at ix) (length ix))
+  up-to k h = where-ext (at ws) (length ix) _ _ (λ p l. same p (decLe (part p) k))
     where
-      none : ((p : ℕ) → p < length ix → leb (part p) k ≡ false) → n * with-it k ≤ suc k * weightAll ix ws + n * heaviestOn ix ws
-      none f = let e : n * with-it k ≤ n * 0 = mul-le-mul-left n (omega (arith, none-up-to k f)) in omega arith
+      same : (p : ℕ) → Dec (part p ≤ k) → leb (part p) k ≡ leb (at ix p) (split n ix ws (suc k))
+      same p (yes g) = le-leb (part p) k g ∙ sym (le-leb _ _ (ltb-false (split n ix ws (suc k)) (at ix p) (part-cut n ix ws (at ix p) .fail k g h)))
+      same p (no g) = lt-leb (part p) k (omega arith) ∙ sym (lt-leb _ _ (ltb-true (split n ix ws (suc k)) (at ix p) (part-cut n ix ws (at ix p) .pass k (omega arith))))
 
-      some : (b : ℕ) × Best (λ p. leb (part p) k) (at ix) (length ix) b → n * with-it k ≤ suc k * weightAll ix ws + n * heaviestOn ix ws
-      some b =
-          let x = at ix (b .0) in
-          let all : with-it k ≤ weightUnder ix ws x + heaviestOn ix ws =
-          omega (arith, up-to k (b .0) (b .1), to-is ix ws x, on-at-most ix ws (b .0) (b .1 .inside)) in
-          let m : n * with-it k ≤ n * weightUnder ix ws x + n * heaviestOn ix ws = rw (← mul-add n (weightUnder ix ws x) (heaviestOn ix ws)) (mul-le-mul-left n all) in
-          omega (arith, m, share (decLt k (n - 1)))
-        where
-          share : Dec (k < n - 1) → n * weightUnder ix ws (at ix (b .0)) ≤ suc k * weightAll ix ws
-          share (yes h) = under-split (suc k) (at ix (b .0)) (ltb-false _ _ (part-cut n ix ws (at ix (b .0)) .fail k (leb-true (part (b .0)) k (b .1 .passes)) h))
-          share (no h) =
-              let g : n ≤ suc k = omega arith in
-              omega (arith, mul-le-mul-left n (under-at-most-all (at ix (b .0))), mul-le-mul-right (weightAll ix ws) g)
+  -- and the parts below k + 1
+  before-next : (k : ℕ) → before (suc k) ≡ with-it k
+  unfolding before with-it
+  before-next k = where-ext (at ws) (length ix) _ _ (λ p l. same (part p) (decLe (part p) k))
+    where
+      same : (a : ℕ) → Dec (a ≤ k) → ltb a (suc k) ≡ leb a k
+      same a (yes g) = lt-ltb a (suc k) (omega arith) ∙ sym (le-leb a k g)
+      same a (no g) = le-ltb a (suc k) (omega arith) ∙ sym (lt-leb a k (omega arith))
 
-  left : (k p : ℕ) → at ix p ≤ split n ix ws (suc k) → Dec (part p < suc k) → part p < suc k
-  left k p l (yes g) = g
-  left k p l (no g) = absurd (omega (arith, ltb-true (split n ix ws (suc k)) (at ix p) (part-cut n ix ws (at ix p) .pass k (omega arith))))
+  with-it-at-most : (k : ℕ) → with-it k ≤ weightAll ix ws
+  unfolding with-it weightAll
+  with-it-at-most k = where-at-most (at ws) (length ix) _
 
-  down : (k : ℕ) → weightTo ix ws (split n ix ws (suc k)) ≤ before (suc k)
-  unfolding weightTo before
-  down k = where-mono (at ws) (length ix) _ _ (λ p l e. lt-ltb _ _ (left k p (leb-true _ _ e) (decLt (part p) (suc k))))
+  -- they have at most k + 1 shares and one index more
+  upper : (k : ℕ) → n * with-it k ≤ suc k * weightAll ix ws + n * heaviestOn ix ws
+  upper k = go (decLt k (n - 1))
+    where
+      go : Dec (k < n - 1) → n * with-it k ≤ suc k * weightAll ix ws + n * heaviestOn ix ws
+      go (yes h) = rw (up-to k h) (split-not-over n ix ws (suc k))
+      go (no h) =
+          let g : n ≤ suc k = omega arith in
+          omega (arith, mul-le-mul-left n (with-it-at-most k), mul-le-mul-right (weightAll ix ws) g)
 
-  -- the parts below k have at least k shares
+  -- and at least k + 1
   lower : (k : ℕ) → k < n → k * weightAll ix ws ≤ n * before k
   lower zero h = omega (arith, zero-mul (weightAll ix ws))
-  lower (suc k) h = omega (arith, split-enough n ix ws (suc k) (omega arith), mul-le-mul-left n (down k))
+  lower (suc k) h = rw (before-next k, up-to k (omega arith)) (split-enough n ix ws (suc k) (omega arith))
 
   part-bound : (p : ℕ) → part p ≤ n - 1
   part-bound p = part-cut n ix ws (at ix p) .within

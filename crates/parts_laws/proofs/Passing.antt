@@ -1,22 +1,21 @@
 -- The parts of points, worked out along their order: at a new index, the splits that the weight passed reaches are those below it.
 -- Assumes nothing.
-use Prim.Native.Nat.{ℕ, zero, suc, _+_, _-_, _*_, _≤_, _<_}
+use Prim.Native.Nat.{ℕ, suc, _+_, _-_, _*_, _≤_, _<_}
 use native.Mathlib.Omega.{arith}
-use native.Mathlib.Nat.{mul-le-mul-left, mul-le-mul-right, eq-or-lt-of-le}
+use native.Mathlib.Nat.{mul-le-mul-left}
 use native.Mathlib.Decide.{decLt, ℕ-discrete}
-use mathlib.Core.Logic.{⊎-elim}
-use mathlib.Core.Bool.{Bool, true, false}
+use mathlib.Core.Bool.{true, false}
 use mathlib.Core.Path.{_≡_, refl, ap, sym, _∙_}
 use mathlib.Core.List.{List}
-use lib.ListN.{length, getD, set, length-set}
+use lib.ListN.{length, set, length-set}
 use lib.Seq.{getD-set-same, getD-set-other, ext-getD}
 use lib.Dec.{leb, ltb}
-use borrow.Author.Tests.{lt-ltb, le-ltb, le-leb, lt-leb, ltb-true}
+use borrow.Author.Tests.{lt-ltb, le-ltb, le-leb, ltb-true, leb-true}
 use Rattle.rules.specs.Sums.{pick, total, sumWhere}
 use Rattle.rules.specs.Refusals.{topWeight}
 use Rattle.requests.specs.Order.{at, orderOf}
 use Rattle.requests.specs.Parts.{weightAll, weightTo, split, partAt, partsOf}
-use Rattle.laws.proofs.Totals.{total-ext, total-mono, total-zero, total-split, total-more, total-le}
+use Rattle.laws.proofs.Totals.{total-ext, total-zero, total-split, total-more, total-le, where-mono}
 use Rattle.laws.proofs.Lists.{length-list, getD-list}
 use Rattle.parts_laws.proofs.Places.{order-places, order-has, order-below, order-rises}
 use Rattle.parts_laws.proofs.Counts.{count-is}
@@ -24,34 +23,18 @@ use Rattle.parts_laws.proofs.Splits.{split-enough, split-first, split-p
 use Rattle.parts_laws.specs.Accepted.{Accepted}
 use Rattle.parts_laws.specs.Passing.{topAll, Advanced}
 
--- a sum in two parts
-parted : (f : ℕ → ℕ) (j n : ℕ) → j ≤ n → total f n ≡ total f j + total (λ i. f (j + i)) (n - j)
-parted f j n h = let e : n ≡ j + (n - j) = omega arith in ap (total f) e ∙ total-split f j (n - j)
-
--- a sum with a test that fails from place j on is at most the sum of the first j terms
-where-first : (t : ℕ → Bool) (g : ℕ → ℕ) (j n : ℕ) → j ≤ n → ((i : ℕ) → j ≤ i → i < n → t i ≡ false) → sumWhere t g n ≤ total g j
+-- the first j terms of a sum, as those that pass a test
+first-terms : (g : ℕ → ℕ) (j n : ℕ) → j ≤ n → sumWhere (λ i. ltb i j) g n ≡ total g j
 unfolding pick
-where-first t g j n l h =
-    omega (
+first-terms g j n h =
+    let e : n ≡ j + (n - j) = omega arith in
+    ap (total _) e
+    ∙ total-split (λ i. pick (ltb i j) (g i) 0) j (n - j)
+    ∙ omega (
       arith,
-      parted (λ i. pick (t i) (g i) 0) j n l,
-      total-mono (λ i. pick (t i) (g i) 0) g j (λ i m. one (t i) (g i)),
-      total-ext (λ i. pick (t (j + i)) (g (j + i)) 0) (λ i. 0) (n - j) (λ i m. rw (h (j + i) (omega arith) (omega arith))),
+      total-ext (λ i. pick (ltb i j) (g i) 0) g j (λ i l. rw (lt-ltb i j l)),
+      total-ext (λ i. pick (ltb (j + i) j) (g (j + i)) 0) (λ i. 0) (n - j) (λ i l. rw (le-ltb (j + i) j (omega arith))),
       total-zero (n - j),
-    )
-  where
-    one : (b : Bool) (v : ℕ) → pick b v 0 ≤ v
-    one true v = omega arith
-    one false v = omega arith
-
--- and is at least that where the first j pass
-first-where : (t : ℕ → Bool) (g : ℕ → ℕ) (j n : ℕ) → j ≤ n → ((i : ℕ) → i < j → t i ≡ true) → total g j ≤ sumWhere t g n
-unfolding pick
-first-where t g j n l h =
-    omega (
-      arith,
-      parted (λ i. pick (t i) (g i) 0) j n l,
-      total-ext g (λ i. pick (t i) (g i) 0) j (λ i m. rw (h i m)),
     )
 
 -- THE PASS
@@ -102,23 +85,23 @@ module _ (n : ℕ) (ix ws : List ℕ) where
     pub point-below : point j < length ix
     point-below = order-below ix j l
 
+    passed-is : sumWhere (λ i. ltb i j) (λ i. at ws (point i)) (length ix) ≡ sum
+    passed-is = first-terms _ j (length ix) (omega arith) ∙ sym (s .sum-is)
+
     -- all points passed are at or below the last index
     passed-to : sum ≤ weightTo ix ws last
-    passed-to =
-        rw (to-places last, s .sum-is)
-        (first-where (λ i. leb (at ix (point i)) last) (λ i. at ws (point i)) j (length ix) (omega arith) (λ i m. le-leb _ _ (before i m)))
+    passed-to = rw (to-places last, ← passed-is) (where-mono (λ i. at ws (point i)) (length ix) _ _ (λ i m e. le-leb _ _ (before i (ltb-true i j e))))
       where
         before : (i : ℕ) → i < j → at ix (point i) ≤ last
         before i m = omega (arith, s .last-is, order-rises ix i (j - 1) (omega arith) (omega arith))
 
     -- no others are below this point's index
     to-passed : (y : ℕ) → y < at ix (point j) → weightTo ix ws y ≤ sum
-    to-passed y h =
-        rw (to-places y, s .sum-is)
-        (where-first (λ i. leb (at ix (point i)) y) (λ i. at ws (point i)) j (length ix) (omega arith) (λ i m o. lt-leb _ _ (after i m o)))
+    to-passed y h = rw (to-places y, ← passed-is) (where-mono (λ i. at ws (point i)) (length ix) _ _ (λ i m e. lt-ltb _ _ (early i m (leb-true _ _ e) (decLt i j))))
       where
-        after : (i : ℕ) → j ≤ i → i < length ix → y < at ix (point i)
-        after i m o = omega (arith, order-rises ix j i m o)
+        early : (i : ℕ) → i < length ix → at ix (point i) ≤ y → Dec (i < j) → i < j
+        early i m e (yes g) = g
+        early i m e (no g) = absurd (omega (arith, order-rises ix j i (omega arith) m))
 
     -- a split that the weight passed reaches is at or below the last index
     reached-low : (i : ℕ) → i * weightAll ix ws ≤ n * sum → last < at ix (point j) → split n ix ws i ≤ last

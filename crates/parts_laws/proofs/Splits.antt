@@ -1,30 +1,20 @@
--- A split is the smallest index present that reaches, and splits rise. Assumes nothing.
-use Prim.Native.Nat.{ℕ, zero, suc, _+_, _-_, _*_, _≤_, _<_}
+-- A split is the smallest index present that reaches, goes over its shares by one index at most, and splits rise. Assumes nothing.
+use Prim.Native.Nat.{ℕ, suc, _+_, _-_, _*_, _≤_, _<_}
 use native.Mathlib.Omega.{arith}
-use native.Mathlib.Nat.{mul-le-mul-right}
+use native.Mathlib.Nat.{mul-le-mul-left, mul-le-mul-right, mul-add}
 use native.Mathlib.Decide.{decLe, decLt}
-use mathlib.Core.Bool.{true, false, _&&_, not, and-false}
+use mathlib.Core.Logic.{⊎-elim}
+use mathlib.Core.Bool.{Bool, true, false, _&&_, not, and-false}
 use mathlib.Core.Path.{_≡_, refl, ap₂, sym, _∙_}
 use mathlib.Core.List.{List}
 use lib.ListN.{length}
 use lib.Dec.{leb, ltb, eqb}
-use borrow.Author.Tests.{lt-ltb, le-ltb, le-leb, lt-leb, ltb-true, leb-true, eq-eqb, ne-eqb}
-use Rattle.rules.specs.Sums.{sumWhere, top}
+use borrow.Author.Tests.{lt-ltb, le-ltb, le-leb, lt-leb, ltb-true, leb-true, eq-eqb, ne-eqb, eqb-true}
+use Rattle.rules.specs.Sums.{total, sumWhere, top}
 use Rattle.requests.specs.Order.{at}
 use Rattle.requests.specs.Parts.{weightAll, weightTo, weightOn, heaviestOn, reaches, split, IsSplit, partAt}
 use Rattle.laws.proofs.Totals.{where-ext, where-all, where-none, where-mono, where-split, top-le}
-use Rattle.parts_laws.proofs.Counts.{least-default, least-le, least-has, Cut, cut}
-
--- the largest is one of them
-pub top-present : (f : ℕ → ℕ) (n : ℕ) → 0 < n → (p : ℕ) × (p < n) × (f p ≡ top f n)
-unfolding top
-top-present f zero h = absurd (omega arith)
-top-present f (suc zero) h = (0, omega arith, omega arith)
-top-present f (suc (suc n)) h = go (top-present f (suc n) (omega arith)) (decLe (top f (suc n)) (f (suc n)))
-  where
-    go : (p : ℕ) × (p < suc n) × (f p ≡ top f (suc n)) → Dec (top f (suc n) ≤ f (suc n)) → (p : ℕ) × (p < suc (suc n)) × (f p ≡ top f (suc (suc n)))
-    go t (yes l) = (suc n, omega arith, omega arith)
-    go t (no l) = (t .0, omega (arith, t .1), omega (arith, t .2))
+use Rattle.parts_laws.proofs.Counts.{least-default, least-le, least-has, top-present, Best, best, Cut, cut}
 
 -- what is under x and what is on it make up what is not above it
 pub under-plus-on : (f g : ℕ → ℕ) (n x : ℕ) → sumWhere (λ p. ltb (f p) x) g n + sumWhere (λ p. eqb (f p) x) g n ≡ sumWhere (λ p. leb (f p) x) g n
@@ -42,40 +32,39 @@ under-plus-on f g n x =
     on a (no g) (yes h) = rw (ne-eqb a x (λ z. omega arith), lt-leb a x (omega arith))
     on a (no g) (no h) = absurd (omega arith)
 
-module _ (ix ws : List ℕ) where
-  pub to-at-most : (x : ℕ) → weightTo ix ws x ≤ weightAll ix ws
-  unfolding weightTo weightAll
-  to-at-most x =
-      omega (
-        arith,
-        where-mono (at ws) (length ix) (λ p. leb (at ix p) x) (λ p. true) (λ p l e. refl),
-        where-all (at ws) (length ix) (λ p. true) (λ p l. refl),
-      )
+-- a sum with a test is at most the sum
+pub where-at-most : (g : ℕ → ℕ) (n : ℕ) (t : ℕ → Bool) → sumWhere t g n ≤ total g n
+where-at-most g n t = omega (arith, where-mono g n t (λ p. true) (λ p l e. refl), where-all g n (λ p. true) (λ p l. refl))
 
+module _ (ix ws : List ℕ) where
   -- all points are at or below the largest index
-  pub to-top : weightTo ix ws (top (at ix) (length ix)) ≡ weightAll ix ws
+  to-top : weightTo ix ws (top (at ix) (length ix)) ≡ weightAll ix ws
   unfolding weightTo weightAll
   to-top = where-all (at ws) (length ix) _ (λ p l. le-leb _ _ (top-le (at ix) (length ix) p l))
 
   -- the weight strictly below an index
-  pub weightUnder : ℕ → ℕ
+  weightUnder : ℕ → ℕ
   weightUnder x = sumWhere (λ p. ltb (at ix p) x) (at ws) (length ix)
 
-  pub to-is : (x : ℕ) → weightUnder x + weightOn ix ws x ≡ weightTo ix ws x
+  to-is : (x : ℕ) → weightUnder x + weightOn ix ws x ≡ weightTo ix ws x
   unfolding weightTo weightOn weightUnder
   to-is = under-plus-on (at ix) (at ws) (length ix)
 
-  pub under-at-most : (x y : ℕ) → ((p : ℕ) → p < length ix → at ix p < x → at ix p ≤ y) → weightUnder x ≤ weightTo ix ws y
+  under-at-most : (x y : ℕ) → ((p : ℕ) → p < length ix → at ix p < x → at ix p ≤ y) → weightUnder x ≤ weightTo ix ws y
   unfolding weightTo weightUnder
   under-at-most x y h = where-mono (at ws) (length ix) _ _ (λ p l e. le-leb _ _ (h p l (ltb-true (at ix p) x e)))
 
-  pub under-none : (x : ℕ) → ((p : ℕ) → p < length ix → ltb (at ix p) x ≡ false) → weightUnder x ≡ 0
+  under-none : (x : ℕ) → ((p : ℕ) → p < length ix → ltb (at ix p) x ≡ false) → weightUnder x ≡ 0
   unfolding weightUnder
   under-none x h = where-none (at ws) (length ix) _ h
 
-  pub on-at-most : (p : ℕ) → p < length ix → weightOn ix ws (at ix p) ≤ heaviestOn ix ws
-  unfolding heaviestOn
-  on-at-most p l = top-le (λ p. weightOn ix ws (at ix p)) (length ix) p l
+  -- the weight on an index, present or not
+  on-at-most : (x : ℕ) → weightOn ix ws x ≤ heaviestOn ix ws
+  unfolding heaviestOn weightOn
+  on-at-most x =
+      ⊎-elim (λ f. omega (arith, where-none (at ws) (length ix) _ f))
+      (λ b. rw (← eqb-true (at ix (b .0)) x (b .1 .passes)) (top-le (λ p. weightOn ix ws (at ix p)) (length ix) (b .0) (b .1 .inside)))
+      (best (λ p. eqb (at ix p) x) (at ix) (length ix))
 
 module _ (n : ℕ) (ix ws : List ℕ) where
   -- a split reaches
@@ -110,6 +99,33 @@ module _ (n : ℕ) (ix ws : List ℕ) where
   pub part-cut : (x : ℕ) → Cut (λ i. ltb (split n ix ws (suc i)) x) (n - 1) (partAt n ix ws x)
   unfolding partAt
   part-cut x = cut _ (λ i j h e. lt-ltb (split n ix ws (suc i)) x (omega (arith, split-mono (suc i) (suc j) (omega arith), ltb-true (split n ix ws (suc j)) x e))) (n - 1)
+
+  -- what is strictly below a split does not reach: the largest index there does not
+  under-split : (i : ℕ) → n * weightUnder ix ws (split n ix ws i) ≤ i * weightAll ix ws
+  under-split i = ⊎-elim none some (best (λ p. ltb (at ix p) x) (at ix) (length ix))
+    where
+      x : ℕ
+      x = split n ix ws i
+
+      none : ((p : ℕ) → p < length ix → ltb (at ix p) x ≡ false) → n * weightUnder ix ws x ≤ i * weightAll ix ws
+      none f = let e : n * weightUnder ix ws x ≤ n * 0 = mul-le-mul-left n (omega (arith, under-none ix ws x f)) in omega arith
+
+      some : (b : ℕ) × Best (λ p. ltb (at ix p) x) (at ix) (length ix) b → n * weightUnder ix ws x ≤ i * weightAll ix ws
+      some b = go (decLe (i * weightAll ix ws) (n * weightTo ix ws (at ix (b .0))))
+        where
+          less : n * weightUnder ix ws x ≤ n * weightTo ix ws (at ix (b .0))
+          less = mul-le-mul-left n (under-at-most ix ws x (at ix (b .0)) (λ p l g. b .1 .largest p l (lt-ltb _ _ g)))
+
+          go : Dec (i * weightAll ix ws ≤ n * weightTo ix ws (at ix (b .0))) → n * weightUnder ix ws x ≤ i * weightAll ix ws
+          go (yes g) = absurd (omega (arith, split-first i (b .0) (b .1 .inside) g, ltb-true (at ix (b .0)) x (b .1 .passes)))
+          go (no g) = omega (arith, less)
+
+  -- so a split goes over its shares by one index at most
+  pub split-not-over : (i : ℕ) → n * weightTo ix ws (split n ix ws i) ≤ i * weightAll ix ws + n * heaviestOn ix ws
+  split-not-over i =
+      let x : ℕ = split n ix ws i in
+      let all : weightTo ix ws x ≤ weightUnder ix ws x + heaviestOn ix ws = omega (arith, to-is ix ws x, on-at-most ix ws x) in
+      omega (arith, mul-add n (weightUnder ix ws x) (heaviestOn ix ws), mul-le-mul-left n all, under-split i)
 
 -- two splits of the same number are one
 pub split-unique : (n : ℕ) (ix ws : List ℕ) (i x y : ℕ) → IsSplit n ix ws i x → IsSplit n ix ws i y → x ≡ y
