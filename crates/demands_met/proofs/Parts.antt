@@ -12,10 +12,10 @@ use Rattle.skarvolm.proofs.skarvolm_parts.Reads as skarvolm-parts-reads
 pub parts-along-meets : Fitting parts-along-kinds.ps parts-along-kinds.r parts-along-reads.Post
     (λ κs a y e. PartsDemand (a .0) (a .1 .0 .now) (a .1 .1 .0 .now) (a .1 .1 .1 .0 .now) (a .1 .1 .1 .1 .0 .now)
     (record { number = y; parts = e .1 .1 .1 .0 .now; order = e .1 .1 .1 .1 .0 .now }))
-parts-along-meets κs a y e p = rw (p .0, p .1 .0, p .1 .1) (parts-demand (a .0) (a .1 .0 .now) (a .1 .1 .0 .now) (a .1 .1 .1 .0 .now) (a .1 .1 .1 .1 .0 .now))
+parts-along-meets κs a y e p = rw (p .0, p .1 .0, p .1 .1) (parts-demand _ _ _ _ _)
 
 -- skarvolm_parts(n, indices, weights, parts, order)
 pub skarvolm-parts-meets : Fitting skarvolm-parts-kinds.ps skarvolm-parts-kinds.r skarvolm-parts-reads.Post
     (λ κs a y e. PartsDemand (a .0) (a .1 .0 .now) (a .1 .1 .0 .now) (a .1 .1 .1 .0 .now) (a .1 .1 .1 .1 .0 .now)
     (record { number = y; parts = e .1 .1 .1 .0 .now; order = e .1 .1 .1 .1 .0 .now }))
-skarvolm-parts-meets κs a y e p = rw (p .0, p .1 .0, p .1 .1) (parts-demand (a .0) (a .1 .0 .now) (a .1 .1 .0 .now) (a .1 .1 .1 .0 .now) (a .1 .1 .1 .1 .0 .now))
+skarvolm-parts-meets κs a y e p = rw (p .0, p .1 .0, p .1 .1) (parts-demand _ _ _ _ _)
