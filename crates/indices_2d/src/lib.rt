@@ -1,4 +1,4 @@
-// Writing the index of every point in 2D on axes that take them, inside: `knots_2d` calls it.
+// Writing the index of every point in 2D on axes that take them, inside: `knots_2d` and `given_2d` call it.
 //
 // The knot of a point is its cell on each axis, its index that of the knot on the curve. No point is refused, since each axis accepts it
 // and its cells lie below 2^order; the whole index slice is written (write-2d-only).

@@ -1,4 +1,4 @@
-// Writing the index of every point in 3D on axes that take them, inside: `knots_3d` calls it.
+// Writing the index of every point in 3D on axes that take them, inside: `knots_3d` and `given_3d` call it.
 //
 // The knot of a point is its cell on each axis, its index that of the knot on the curve. No point is refused, since each axis accepts it
 // and its cells lie below 2^order; the whole index slice is written (write-3d-only).

@@ -41,21 +41,6 @@ start l = l .before .before .before .before .before
 here : (c : tie.In-loop Inv-loop μ-loop) → c .before .loop .i < length (start (c .before) .args .xs .now)
 here c = let e = c .before .loop .inv .1 in omega (arith, c .loop-test .taken)
 
-shared-slice-read-cell-on : tie.Need-shared-slice-read-cell-on Inv-loop μ-loop
-shared-slice-read-cell-on c = point-read _ _ _ _ (start (c .before .before) .pre .1 .0) _ (here (c .before))
-
-cell-on-requires : tie.Need-cell-on-requires Inv-loop μ-loop
-cell-on-requires c κs = point-accepted _ _ _ _ (start (c .before .before) .pre .1 .0) _ (here (c .before))
-
-shared-slice-read-cell-on-2 : tie.Need-shared-slice-read-cell-on-2 Inv-loop μ-loop
-shared-slice-read-cell-on-2 c = let i = c .before .before .before in point-read _ _ _ _ (start (i .before) .pre .1 .1 .0) _ (here i)
-
-cell-on-requires-2 : tie.Need-cell-on-requires-2 Inv-loop μ-loop
-cell-on-requires-2 c κs = let i = c .before .before .before in point-accepted _ _ _ _ (start (i .before) .pre .1 .1 .0) _ (here i)
-
-encode-2d-with-requires : tie.Need-encode-2d-with-requires Inv-loop μ-loop
-encode-2d-with-requires c κs = c .before .before .before .before .before .before .before .table .ensures
-
 -- the turn of the loop that the answer belongs to
 abbrev in-loop : tie.After-encode-2d-with Inv-loop μ-loop → tie.In-loop Inv-loop μ-loop
 in-loop c = c .before .before .before .before .before .before
@@ -87,9 +72,6 @@ slice-write-indices c =
     let k = start (i .before) .pre .1 .1 .1 in
     omega (arith, kept (i .before), here i)
 
-same-length : tie.Need-same-length Inv-loop μ-loop
-same-length c = kept (in-loop (c .before .before .before) .before)
-
 returns : tie.Need-returns Inv-loop μ-loop
 returns c =
     let e = sym (c .before .number .given .1) ∙ coded-is (c .before .before .before) in
@@ -101,9 +83,6 @@ loop-again c =
     let i = in-loop (c .before .before .before) in
     let k = start (i .before) .pre .1 .1 .1 in
     (search needs, i .before .loop .inv .1, written-more _ _ _ _ _ (omega (arith, here i)) (i .before .loop .inv .2) (sym (c .before .index .given .1) ∙ coded-is (c .before .before .before)))
-
-same-length-2 : tie.Need-same-length-2 Inv-loop μ-loop
-same-length-2 c = kept (c .before)
 
 returns-2 : tie.Need-returns-2 Inv-loop μ-loop
 returns-2 c =
@@ -120,20 +99,20 @@ write-2d-spec =
     (λ c κs. search needs)
     loop-holds
     (λ c. search needs)
-    shared-slice-read-cell-on
-    cell-on-requires
+    (λ c. point-read _ _ _ _ (start (c .before .before) .pre .1 .0) _ (here (c .before)))
+    (λ c κs. point-accepted _ _ _ _ (start (c .before .before) .pre .1 .0) _ (here (c .before)))
     (λ c. search needs)
-    shared-slice-read-cell-on-2
-    cell-on-requires-2
-    encode-2d-with-requires
+    (λ c. let i = c .before .before .before in point-read _ _ _ _ (start (i .before) .pre .1 .1 .0) _ (here i))
+    (λ c κs. let i = c .before .before .before in point-accepted _ _ _ _ (start (i .before) .pre .1 .1 .0) _ (here i))
+    (λ c κs. c .before .before .before .before .before .before .before .table .ensures)
     (λ c. search needs)
     (λ c. search needs)
     slice-write-indices
     (λ c. search needs)
-    same-length
+    (λ c. kept (in-loop (c .before .before .before) .before))
     returns
     (λ c. search needs)
     (λ c. search needs)
     loop-again
-    same-length-2
+    (λ c. kept (c .before))
     returns-2)

@@ -1,6 +1,6 @@
 -- `knots_2d::index_over` meets its contract: fit points refuse an axis only for being thin, and an axis that is made takes its points. Assumes
 -- nothing.
-use mathlib.Core.Path.{_≡_, refl, _∙_}
+use mathlib.Core.Path.{_≡_, refl}
 use mathlib.Core.List.{List, [], _∷_}
 use Prim.Native.Nat.{ℕ}
 use lib.Dec.{lit≤}
@@ -25,12 +25,15 @@ fit : (s : tie.Start) → let a = s .args in
     Passed top2 (a .order) (length (a .xs .now)) (length (a .ys .now) ∷ length (a .indices .now) ∷ []) (a .xs .now ∷ a .ys .now ∷ [])
 fit s = passed _ _ _ _ _ (s .pre)
 
--- where the call began, from where the axis of xs was asked for
+-- where the call began, from where the axis of xs was asked for; and where that axis was made, from where that of ys was asked for
 abbrev x-start : tie.After-axis-over → tie.Start
 x-start c = c .before .before .before .before
 
+abbrev x-made : tie.After-axis-over2 → tie.After-x-answer
+x-made c = c .before .before
+
 abbrev y-start : tie.After-axis-over2 → tie.Start
-y-start c = x-start (c .before .before .before .before)
+y-start c = x-start (x-made c .before .before)
 
 x-asked : (c : tie.After-axis-over) → let a = x-start c .args in Asked (a .xs .now) (length (a .xs .now)) (a .order) (c .axis-over .result)
 x-asked c = let f = fit (x-start c) in record { all = refl; some = f .some; fit = f .fit 0 (lit≤ tt); few = f .few; is = c .axis-over .ensures }
@@ -56,13 +59,13 @@ unfolding indexAll2 someThin
 returns-2 c =
     let asked = c .before .before .before in
     let t = thin (y-asked asked) _ _ (c .before .enum-told2 .given .1) (c .axis-refusal2 .ensures) in
-    let x = asked .before .before in
+    let x = x-made asked in
     refused-thin _ _ _ _ _ _ _ _ (y-start asked .pre) (passes-later _ _ _ _ (x-over x .thick) (passes-here _ _ _ (t .0))) _ (t .1)
 
 write-2d-requires : tie.Need-write-2d-requires
 write-2d-requires c κs =
     let y = c .before .before in
-    let x = y .before .before .before .before in
+    let x = x-made (y .before .before) in
     let f = fit (y-start (y .before .before)) in
     (f .few, (x-over x .takes, (y-over y .takes, f .long 1 (lit≤ tt))))
 
@@ -77,7 +80,7 @@ unfolding indexAll2 someThin
 returns-3 c =
     let written = c .before .before in
     let y = written .before .before .before in
-    let x = y .before .before .before .before in
+    let x = x-made (y .before .before) in
     answered _ _ _ _ _ _ _ _ (y-start (y .before .before) .pre) (passes-later _ _ _ _ (x-over x .thick) (passes-later _ _ _ _ (y-over y .thick) (passes-never _))) _ _
     (written .write-2d .ensures .0) (on-axes-over _ _ _ _ _ _ _ (written .write-2d .ensures .1) (x-over x .made) (y-over y .made))
 

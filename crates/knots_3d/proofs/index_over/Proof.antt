@@ -1,6 +1,6 @@
 -- `knots_3d::index_over` meets its contract: fit points refuse an axis only for being thin, and an axis that is made takes its points. Assumes
 -- nothing.
-use mathlib.Core.Path.{_≡_, refl, _∙_}
+use mathlib.Core.Path.{_≡_, refl}
 use mathlib.Core.List.{List, [], _∷_}
 use Prim.Native.Nat.{ℕ}
 use native.Mathlib.Omega.{arith}
@@ -26,15 +26,21 @@ fit : (s : tie.Start) → let a = s .args in
     Passed top3 (a .order) (length (a .xs .now)) (length (a .ys .now) ∷ length (a .zs .now) ∷ length (a .indices .now) ∷ []) (a .xs .now ∷ a .ys .now ∷ a .zs .now ∷ [])
 fit s = passed _ _ _ _ _ (s .pre)
 
--- where the call began, from where the axis of xs was asked for, and from where that of ys was
+-- where the call began, from where the axis of xs was asked for; and where an axis was made, from where the next was asked for
 abbrev x-start : tie.After-axis-over → tie.Start
 x-start c = c .before .before .before .before .before
 
+abbrev x-made : tie.After-axis-over2 → tie.After-x-answer
+x-made c = c .before .before
+
 abbrev y-start : tie.After-axis-over2 → tie.Start
-y-start c = x-start (c .before .before .before .before)
+y-start c = x-start (x-made c .before .before)
+
+abbrev y-made : tie.After-axis-over3 → tie.After-y-answer
+y-made c = c .before .before
 
 abbrev z-start : tie.After-axis-over3 → tie.Start
-z-start c = y-start (c .before .before .before .before)
+z-start c = y-start (y-made c .before .before)
 
 x-asked : (c : tie.After-axis-over) → let a = x-start c .args in Asked (a .xs .now) (length (a .xs .now)) (a .order) (c .axis-over .result)
 x-asked c = let f = fit (x-start c) in record { all = refl; some = f .some; fit = f .fit 0 (lit≤ tt); few = omega (arith, f .few); is = c .axis-over .ensures }
@@ -60,7 +66,7 @@ unfolding indexAll3 someThin
 returns-2 c =
     let asked = c .before .before .before in
     let t = thin (y-asked asked) _ _ (c .before .enum-told2 .given .1) (c .axis-refusal2 .ensures) in
-    let x = asked .before .before in
+    let x = x-made asked in
     refused-thin _ _ _ _ _ _ _ _ (y-start asked .pre) (passes-later _ _ _ _ (x-over x .thick) (passes-here _ _ _ (t .0))) _ (t .1)
 
 z-asked : (c : tie.After-axis-over3) → let a = z-start c .args in Asked (a .zs .now) (length (a .xs .now)) (a .order) (c .axis-over3 .result)
@@ -74,15 +80,15 @@ unfolding indexAll3 someThin
 returns-3 c =
     let asked = c .before .before .before in
     let t = thin (z-asked asked) _ _ (c .before .enum-told3 .given .1) (c .axis-refusal3 .ensures) in
-    let y = asked .before .before in
-    let x = y .before .before .before .before in
+    let y = y-made asked in
+    let x = x-made (y .before .before) in
     refused-thin _ _ _ _ _ _ _ _ (z-start asked .pre) (passes-later _ _ _ _ (x-over x .thick) (passes-later _ _ _ _ (y-over y .thick) (passes-here _ _ _ (t .0)))) _ (t .1)
 
 write-3d-requires : tie.Need-write-3d-requires
 write-3d-requires c κs =
     let z = c .before .before in
-    let y = z .before .before .before .before in
-    let x = y .before .before .before .before in
+    let y = y-made (z .before .before) in
+    let x = x-made (y .before .before) in
     let f = fit (z-start (z .before .before)) in
     (f .few, (x-over x .takes, (y-over y .takes, (z-over z .takes, f .long 2 (lit≤ tt)))))
 
@@ -97,8 +103,8 @@ unfolding indexAll3 someThin
 returns-4 c =
     let written = c .before .before in
     let z = written .before .before .before in
-    let y = z .before .before .before .before in
-    let x = y .before .before .before .before in
+    let y = y-made (z .before .before) in
+    let x = x-made (y .before .before) in
     answered _ _ _ _ _ _ _ _ (z-start (z .before .before) .pre) (passes-later _ _ _ _ (x-over x .thick) (passes-later _ _ _ _ (y-over y .thick) (passes-later _ _ _ _ (z-over z .thick) (passes-never _)))) _ _
     (written .write-3d .ensures .0) (on-axes-over _ _ _ _ _ _ _ _ _ (written .write-3d .ensures .1) (x-over x .made) (y-over y .made) (z-over z .made))
 
