@@ -7,7 +7,7 @@ use mathlib.Core.List.{List}
 use lib.ListN.{length, length-set}
 use borrow.Author.Needs.{needs}
 use Rattle.rules.specs.Sums.{total}
-use Rattle.requests.specs.Order.{at, orderOf}
+use Rattle.requests.specs.Order.{topPoints, at, orderOf}
 use Rattle.requests.specs.Parts.{weightAll}
 use Rattle.parts_laws.proofs.Places.{length-order, order-below}
 use Rattle.parts_laws.proofs.Passing.{Passed, begin, new-part, unchanged, step, finished, all-bound, sum-bound, part-below, weight-light}
@@ -21,40 +21,32 @@ Inv-loop n indices weights order parts₀ all sum₀ k₀ last₀ j₀ j-end par
 abbrev μ-loop : tie.MeasureT-loop
 μ-loop n indices weights order parts₀ all sum₀ k₀ last₀ j₀ j-end parts sum k last j = length indices - j
 
--- what is weighed is the weight of all points
-all-is : (c : tie.Start Inv-loop μ-loop) {all : ℕ} → let ws = c .args .weights .now in all ≡ total (at ws) (length ws) → all ≡ weightAll (c .args .indices .now) ws
-unfolding weightAll
-all-is c e = e ∙ ap (total (at (c .args .weights .now))) (c .pre .0 .weights-long)
-
 -- the order has a place for each point
-as-long : (c : tie.Start Inv-loop μ-loop) → length (c .args .order .now) ≡ length (c .args .indices .now)
-as-long c = ap length (c .pre .1 .0) ∙ length-order (c .args .indices .now)
+as-long : (s : tie.Start Inv-loop μ-loop) → length (s .args .order .now) ≡ length (s .args .indices .now)
+as-long s = ap length (s .pre .1 .0) ∙ length-order (s .args .indices .now)
 
--- and at each place a point
-point-fits : (c : tie.Start Inv-loop μ-loop) (j : ℕ) → j < length (c .args .indices .now) → at (c .args .order .now) j < length (c .args .indices .now)
-point-fits c j l = rw (c .pre .1 .0) (order-below (c .args .indices .now) j l)
+-- and at each place a point, whose number is short
+point-fits : (s : tie.Start Inv-loop μ-loop) (j : ℕ) → j < length (s .args .indices .now)
+    → let p = at (s .args .order .now) j in (p < length (s .args .indices .now)) × (p < topPoints)
+point-fits s j l =
+    let fits : at (s .args .order .now) j < length (s .args .indices .now) = rw (s .pre .1 .0) (order-below (s .args .indices .now) j l) in
+    (fits, omega (arith, s .pre .0 .short))
 
 weigh-requires : tie.Need-weigh-requires Inv-loop μ-loop
 weigh-requires c κs =
     let a = c .before .before .before .before .pre .0 in
     record { short = omega (arith, a .weights-long, a .short); light = a .light }
 
-shared-slice-read-last : tie.Need-shared-slice-read-last Inv-loop μ-loop
-shared-slice-read-last c = let s = c .before .before .before .before .before .before in omega (arith, as-long s, s .pre .0 .points)
+-- where the call began, from where the first point is read, and that point
+abbrev begun : tie.After-shared-slice-known4 Inv-loop μ-loop → tie.Start Inv-loop μ-loop
+begun c = c .before .before .before .before .before .before
 
--- the first point
-first-fits : (c : tie.After-shared-slice-known4 Inv-loop μ-loop) → let a = c .before .before .before .before .before .before .args in at (a .order .now) 0 < length (a .indices .now)
-first-fits c = let s = c .before .before .before .before .before .before in point-fits s 0 (s .pre .0 .points)
-
-cast-last : tie.Need-cast-last Inv-loop μ-loop
-cast-last c = omega (arith, first-fits c, c .before .before .before .before .before .before .pre .0 .short)
-
-mul-last : tie.Need-mul-last Inv-loop μ-loop
-mul-last c = omega (arith, first-fits c, c .before .before .before .before .before .before .pre .0 .short)
+first-fits : (c : tie.After-shared-slice-known4 Inv-loop μ-loop) → let p = at (begun c .args .order .now) 0 in (p < length (begun c .args .indices .now)) × (p < topPoints)
+first-fits c = point-fits (begun c) 0 (begun c .pre .0 .points)
 
 loop-holds : tie.Need-loop-holds Inv-loop μ-loop
 loop-holds c =
-    let s = c .before .before .before .before .before .before .before in
+    let s = begun (c .before) in
     let a = s .args in (
       search needs,
       as-long s,
@@ -63,10 +55,17 @@ loop-holds c =
           (begin (a .n) (a .indices .now) (a .weights .now) (a .parts .now) (s .pre .0 .points) (s .pre .1 .1)),
     )
 
--- IN THE LOOP: where the call began
+-- IN THE LOOP: where all points were weighed, and where the call began
+
+abbrev weighed : tie.In-loop Inv-loop μ-loop → tie.After-weigh Inv-loop μ-loop
+weighed c = c .before .before .before .before
 
 abbrev start : tie.In-loop Inv-loop μ-loop → tie.Start Inv-loop μ-loop
-start c = c .before .before .before .before .before .before .before .before .before
+start c = weighed c .before .before .before .before .before
+
+all-is : (c : tie.In-loop Inv-loop μ-loop) → weighed c .weigh .result ≡ weightAll (start c .args .indices .now) (start c .args .weights .now)
+unfolding weightAll
+all-is c = weighed c .weigh .ensures ∙ ap (total (at (start c .args .weights .now))) (start c .pre .0 .weights-long)
 
 inside : (c : tie.In-loop Inv-loop μ-loop) → c .before .loop .j < length (start c .args .indices .now)
 inside c = omega arith
@@ -75,38 +74,18 @@ inside c = omega arith
 point-is : (c : tie.In-loop Inv-loop μ-loop) → at (start c .args .order .now) (c .before .loop .j) ≡ at (orderOf (start c .args .indices .now)) (c .before .loop .j)
 point-is c = ap (λ (l : List ℕ). at l (c .before .loop .j)) (start c .pre .1 .0)
 
-here : (c : tie.In-loop Inv-loop μ-loop) → at (start c .args .order .now) (c .before .loop .j) < length (start c .args .indices .now)
+here : (c : tie.In-loop Inv-loop μ-loop) → let p = at (start c .args .order .now) (c .before .loop .j) in (p < length (start c .args .indices .now)) × (p < topPoints)
 here c = point-fits (start c) (c .before .loop .j) (inside c)
-
-shared-slice-read-point : tie.Need-shared-slice-read-point Inv-loop μ-loop
-shared-slice-read-point c = omega (arith, inside (c .before), as-long (start (c .before)))
-
-cast-point : tie.Need-cast-point Inv-loop μ-loop
-cast-point c = omega (arith, here (c .before), start (c .before) .pre .0 .short)
-
-mul-index : tie.Need-mul-index Inv-loop μ-loop
-mul-index c = omega (arith, here (c .before), start (c .before) .pre .0 .short)
 
 advance-requires : tie.Need-advance-requires Inv-loop μ-loop
 advance-requires c κs =
     let i = c .before .before .before in
     let a = start i .pre .0 in
-    let v = i .before .loop .inv .3 in (
-      (part-below _ _ _ a v, a .few),
-      (omega (arith, all-is (start i) (i .before .before .before .before .weigh .ensures), all-bound _ _ _ a), sum-bound _ _ _ a v (omega arith)),
-    )
-
-mul-parts : tie.Need-mul-parts Inv-loop μ-loop
-mul-parts c = let i = c .before .before .before in omega (arith, here i, start i .pre .0 .short)
+    let v = i .before .loop .inv .3 in
+    ((part-below _ _ _ a v, a .few), (omega (arith, all-is i, all-bound _ _ _ a), sum-bound _ _ _ a v (omega arith)))
 
 slice-write-parts : tie.Need-slice-write-parts Inv-loop μ-loop
 slice-write-parts c = let i = c .before .before .before in omega (arith, here i, i .before .loop .inv .2, start i .pre .1 .1)
-
-mul-sum : tie.Need-mul-sum Inv-loop μ-loop
-mul-sum c = let i = c .before .before .before in omega (arith, here i, start i .pre .0 .short)
-
-shared-slice-read-sum : tie.Need-shared-slice-read-sum Inv-loop μ-loop
-shared-slice-read-sum c = let i = c .before .before .before .before in omega (arith, here i, start i .pre .0 .weights-long)
 
 add-sum : tie.Need-add-sum Inv-loop μ-loop
 add-sum c =
@@ -126,16 +105,10 @@ loop-again c =
       as-long s,
       simp length-set (i .before .loop .inv .2),
       step _ _ _ v l (point-is i) x (ap (at (s .args .weights .now)) (point-is i))
-          (⊎-elim (λ w. rw (w .2) (new-part _ _ _ v l x (all-is s (i .before .before .before .before .weigh .ensures)) (w .0 .taken) (w .1 .ensures)))
+          (⊎-elim (λ w. rw (w .2) (new-part _ _ _ v l x (all-is i) (w .0 .taken) (w .1 .ensures)))
           (λ w. rw (w .1) (unchanged _ _ _ v l (omega (arith, x, w .0 .left))))
           (c .before .if1 .came)),
     )
-
-same-length : tie.Need-same-length Inv-loop μ-loop
-same-length c = c .before .loop .inv .2
-
-returns : tie.Need-returns Inv-loop μ-loop
-returns c = finished _ _ _ (c .before .loop .inv .3) (omega arith)
 
 pub assign-spec : {M : Type 1} → statement M
 assign-spec =
@@ -144,24 +117,24 @@ assign-spec =
     Inv-loop
     μ-loop
     weigh-requires
-    shared-slice-read-last
-    cast-last
-    mul-last
-    (λ c. first-fits (c .before))
+    (λ c. let s = begun c in omega (arith, as-long s, s .pre .0 .points))
+    (λ c. omega (arith, first-fits c))
+    (λ c. omega (arith, first-fits c))
+    (λ c. first-fits (c .before) .0)
     loop-holds
     (λ c. search needs)
-    shared-slice-read-point
-    cast-point
-    mul-index
-    (λ c. here (c .before .before))
+    (λ c. omega (arith, inside (c .before), as-long (start (c .before))))
+    (λ c. omega (arith, here (c .before)))
+    (λ c. omega (arith, here (c .before)))
+    (λ c. here (c .before .before) .0)
     advance-requires
-    mul-parts
+    (λ c. omega (arith, here (c .before .before .before)))
     slice-write-parts
-    mul-sum
-    shared-slice-read-sum
+    (λ c. omega (arith, here (c .before .before .before)))
+    (λ c. let i = c .before .before .before .before in omega (arith, here i, start i .pre .0 .weights-long))
     add-sum
     (λ c. search needs)
     (λ c. search needs)
     loop-again
-    same-length
-    returns)
+    (λ c. c .before .loop .inv .2)
+    (λ c. finished _ _ _ (c .before .loop .inv .3) (omega arith)))
