@@ -1,5 +1,5 @@
 -- Demand 3, in both editions and for every first axis: the splits of a call that is not refused are a tree of fair cuts, and every such tree is balanced.
-use Prim.Native.Nat.{ℕ, _^_, _≤_, _<_}
+use Prim.Native.Nat.{ℕ, _^_, _<_}
 use native.Mathlib.Omega.{arith}
 use mathlib.Core.List.{List}
 use lib.ListN.{getD, length}

@@ -1,9 +1,9 @@
 -- Nothing knows which axis is which: the mirror image of a grid in 2D, cut across the other axis first, has the grid's splits and the mirror image of its ids.
 use Prim.Native.Nat.{ℕ, zero, suc, _+_, _-_, _*_, _/_, _%_, _^_, _≤_, _<_}
 use native.Mathlib.Omega.{arith}
-use native.Mathlib.Nat.{add-mul-mod-self-left, mod-eq-of-lt, mod-lt, add-mul-div-left, div-eq-of-lt, div-lt-iff-lt-mul, zero-add, mul-one, mul-comm, mul-suc, mul-le-mul-left}
+use native.Mathlib.Nat.{mod-eq-of-lt, mod-lt, div-lt-iff-lt-mul, mul-one, mul-comm, mul-suc, mul-le-mul-left}
 use mathlib.Core.Path.{_≡_, refl, ap, ap₂, sym, fun-ext, _∙_}
-use mathlib.Core.Bool.{Bool, true, false, _&&_, _||_, and-comm, and-true}
+use mathlib.Core.Bool.{Bool, false, _&&_, _||_, and-comm, and-true}
 use mathlib.Core.List.{List, [], _∷_}
 use lib.Dec.{ltb}
 use lib.ListN.{getD, length}
@@ -18,17 +18,11 @@ use Rattle.laws.proofs.Exactly.{exactly, none-passes}
 use Rattle.laws.proofs.Lists.{length-list, list-ext, getD-list}
 use Rattle.halving_laws.specs.Mirror.{other, mirrorHalving, mirrorCells}
 use Rattle.laws.proofs.Totals.{total-ext, total-swap}
-use Rattle.halving_laws.proofs.Nested.{total-rows, thin, line-is-thin}
+use Rattle.halving_laws.proofs.Nested.{total-rows, place-in-row, row-of-place, thin, line-is-thin}
 use Rattle.halving_laws.proofs.Accepted.{accepted}
 use Rattle.halving_laws.proofs.Answers.{answered}
 
 -- CELLS: cell (x, y) of w by h stands at x + w * y
-
-here : (w x y : ℕ) → x < w → (x + w * y) % w ≡ x
-here w x y l = add-mul-mod-self-left x w y ∙ mod-eq-of-lt l
-
-there : (w x y : ℕ) → x < w → (x + w * y) / w ≡ y
-there w x y l = add-mul-div-left x y (omega arith) ∙ ap (λ (k : ℕ). k + y) (div-eq-of-lt l) ∙ zero-add y
 
 place-below : (w h x y : ℕ) → x < w → y < h → x + w * y < w * h
 place-below w h x y l m = omega (arith, mul-suc w y, row)
@@ -38,7 +32,7 @@ place-below w h x y l m = omega (arith, mul-suc w y, row)
 
 coords-of : (w h x y : ℕ) → x < w → y < h → coords (w ∷ h ∷ []) (x + w * y) ≡ x ∷ y ∷ []
 unfolding coords
-coords-of w h x y l m = ap₂ (λ (i j : ℕ). i ∷ j ∷ []) (here w x y l) (ap (λ (k : ℕ). k % h) (there w x y l) ∙ mod-eq-of-lt m)
+coords-of w h x y l m = ap₂ (λ (i j : ℕ). i ∷ j ∷ []) (place-in-row w x y l) (ap (λ (k : ℕ). k % h) (row-of-place w x y l) ∙ mod-eq-of-lt m)
 
 all-cells : (w h : ℕ) → cells (w ∷ h ∷ []) ≡ w * h
 unfolding cells
@@ -58,7 +52,7 @@ module _ (w h : ℕ) (xs : List ℕ) where
   unfolding mirrorCells
   mirror-cell x y l m =
       getD-list _ (w * h) (y + h * x) 0 (omega (arith, place-below h w y x m l, mul-comm w h))
-      ∙ ap₂ (λ (i j : ℕ). getD xs (i + w * j) 0) (there h y x m) (here h y x m)
+      ∙ ap₂ (λ (i j : ℕ). getD xs (i + w * j) 0) (row-of-place h y x m) (place-in-row h y x m)
 
 -- WEIGHTS
 

@@ -51,6 +51,13 @@ total-range-to f r (suc n) = go (decLe (r .low) n) (decLt n (r .high)) (total-ra
 pub total-range : (f : ℕ → ℕ) (r : Range) (s : ℕ) → r .high ≤ s → sumWhere (within r) f s ≡ total (λ i. f (r .low + i)) (r .high - r .low)
 total-range f r s h = total-range-to f r s ∙ ap (total (λ i. f (r .low + i))) (omega arith)
 
+-- place x of row q, rows being s long
+pub place-in-row : (s x q : ℕ) → x < s → (x + s * q) % s ≡ x
+place-in-row s x q l = add-mul-mod-self-left x s q ∙ mod-eq-of-lt l
+
+pub row-of-place : (s x q : ℕ) → x < s → (x + s * q) / s ≡ q
+row-of-place s x q l = add-mul-div-left x q (omega arith) ∙ ap (λ (k : ℕ). k + q) (div-eq-of-lt l) ∙ zero-add q
+
 -- the first axis's sum stands innermost
 pub nest : (s : ℕ) (ss : List ℕ) (f : ℕ → ℕ) (r : Range) (rs : Block) → r .high ≤ s
     → sumWhere (λ c. inside (r ∷ rs) (coords (s ∷ ss) c)) f (cells (s ∷ ss))
@@ -59,12 +66,6 @@ unfolding cells coords inside pick
 nest s ss f r rs h =
     total-rows _ s (cells ss) ∙ total-ext _ _ (cells ss) (λ q l. row q)
   where
-    here : (x q : ℕ) → x < s → (x + s * q) % s ≡ x
-    here x q l = add-mul-mod-self-left x s q ∙ mod-eq-of-lt l
-
-    there : (x q : ℕ) → x < s → (x + s * q) / s ≡ q
-    there x q l = add-mul-div-left x q (omega arith) ∙ ap (λ (k : ℕ). k + q) (div-eq-of-lt l) ∙ zero-add q
-
     part : (q : ℕ) (t : Bool) → total (λ x. pick (within r x && t) (f (x + s * q)) 0) s ≡ pick t (total (λ i. f ((r .low + i) + s * q)) (r .high - r .low)) 0
     part q true = total-ext _ _ s (λ x l. ap (λ (t : Bool). pick t (f (x + s * q)) 0) (and-true (within r x))) ∙ total-range (λ x. f (x + s * q)) r s h
     part q false = total-ext _ (λ _. 0) s (λ x l. ap (λ (t : Bool). pick t (f (x + s * q)) 0) (and-false (within r x))) ∙ total-zero s
@@ -72,7 +73,7 @@ nest s ss f r rs h =
     row : (q : ℕ) → total (λ x. pick (within r ((x + s * q) % s) && inside rs (coords ss ((x + s * q) / s))) (f (x + s * q)) 0) s
         ≡ pick (inside rs (coords ss q)) (total (λ i. f ((r .low + i) + s * q)) (r .high - r .low)) 0
     row q =
-        total-ext _ _ s (λ x l. ap₂ (λ (a c : ℕ). pick (within r a && inside rs (coords ss c)) (f (x + s * q)) 0) (here x q l) (there x q l))
+        total-ext _ _ s (λ x l. ap₂ (λ (a c : ℕ). pick (within r a && inside rs (coords ss c)) (f (x + s * q)) 0) (place-in-row s x q l) (row-of-place s x q l))
         ∙ part q (inside rs (coords ss q))
 
 -- no axis is left
