@@ -1,7 +1,7 @@
--- A block of the code is a block of the rules, its parts are the parts of that, and its line the one of that.
-use Prim.Native.Nat.{ℕ, suc, _+_, _-_, _<_, min, max}
+-- A grid of the code has the cells of the rules, a block of the code is a block of the rules, its parts are the parts of that, and its line the one of that.
+use Prim.Native.Nat.{ℕ, suc, _+_, _-_, _*_, _<_, min, max}
 use native.Mathlib.Omega.{arith}
-use native.Mathlib.Nat.{max-eq-left, min-eq-left}
+use native.Mathlib.Nat.{max-eq-left, min-eq-left, mul-one}
 use mathlib.Core.Path.{_≡_, refl, ap, ap₂, sym}
 use mathlib.Core.List.{[], _∷_}
 use lib.Dec.{lit≤}
@@ -9,9 +9,15 @@ use lib.ListN.{length}
 use Rattle.rules.specs.Grid as grid
 use Rattle.rules.specs.Grid.{Range, Block}
 use Rattle.halving_laws.proofs.Nested.{thin}
-use Rattle.blocks.specs.Blocks.{Shape, twoAxes, threeAxes, Across, acrossX, acrossY, acrossZ, Has, no, from, asBlock, side, edge, slab, leftPart, rightPart}
+use Rattle.blocks.specs.Blocks.{Shape, twoAxes, threeAxes, Across, acrossX, acrossY, acrossZ, Has, no, from, sidesOf, asBlock, side, edge, slab, leftPart, rightPart, Layered}
 use Rattle.blocks.specs.declared.Grid.{Grid}
 use Rattle.blocks.specs.declared.SubGrid.{SubGrid}
+
+-- the cells of a grid, its layers counted
+pub cells-are : (s : Shape) (g : Grid) → Layered s g → grid.cells (sidesOf s g) ≡ g .width * (g .height * g .layers)
+unfolding grid.cells
+cells-are twoAxes g y = rw y
+cells-are threeAxes g y = ap (λ (n : ℕ). g .width * (g .height * n)) (mul-one (g .layers))
 
 pub back : (x w : ℕ) → (x + w) - x ≡ w
 back x w = omega arith

@@ -1,5 +1,5 @@
-// A grid and its blocks, which know nothing of weights, inside: `cuts`, `tree` and what halves call it. A grid in 2D has one
-// layer.
+// A grid and its blocks, which know nothing of weights, inside: `cuts`, the trees and what halves call it. A grid in 2D has
+// one layer.
 //
 //   axis     a number: X, Y or Z
 //   cells    cell (x, y, z) stands at x + width * (y + height * z)

@@ -1,4 +1,4 @@
-// The weight of a block, and where a block is cut across an axis, inside: `tree` and what halves call it.
+// The weight of a block, and where a block is cut across an axis, inside: the trees and `halve` call it.
 //
 // The cut is the rule's, and the left weight that is handed on is that of the first part (cut-on); the second part weighs the
 // rest; both lie in the grid (first-sound, second-sound). A cut fills the first sums with the lines' weights, and those behind

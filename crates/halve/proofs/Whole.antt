@@ -2,12 +2,12 @@
 use Prim.Native.Nat.{ℕ, _-_, _*_, _^_, _≤_, _<_}
 use native.Mathlib.Omega.{arith}
 use native.Mathlib.Nat.{zero-add, mul-one}
-use mathlib.Core.Path.{_≡_, refl, ap, sym, _∙_}
+use mathlib.Core.Path.{_≡_, refl, sym, _∙_}
 use mathlib.Core.List.{List}
 use lib.Dec.{lit≤}
 use lib.ListN.{length, replicate}
 use lib.Pow.{pow-mono}
-use Rattle.rules.specs.Grid.{cells, whole, weight}
+use Rattle.rules.specs.Grid.{whole, weight}
 use Rattle.rules.specs.Refusals.{topSide}
 use Rattle.rules.specs.Halving.{uncut, splitsOf, splitsBy}
 use Rattle.halving_laws.specs.Nodes.{Places}
@@ -22,6 +22,7 @@ use Rattle.halve.specs.Calls.{halvingOf}
 use Rattle.blocks.specs.declared.Grid.{Grid}
 use Rattle.blocks.specs.declared.SubGrid.{SubGrid}
 use Rattle.blocks.proofs.Axes.{no-across}
+use Rattle.blocks.proofs.AsBlocks.{cells-are}
 use Rattle.cuts.proofs.Solids.{weight-is-solid}
 
 block-whole : (s : Shape) (g : Grid) → asBlock s (wholeOf g) ≡ whole (sidesOf s g)
@@ -34,12 +35,6 @@ pub whole-tree : (e : ℕ) (s : Shape) (g : Grid) (first k n : ℕ) (ws splits :
     → tree e s g ws k (across first) b 1 splits ≡ splitsBy (halvingOf e s g first k) ws
 unfolding tree splitsOf
 whole-tree e s g first k n ws splits b a i f l = rw (no-across first a, i, f, l, block-whole s g)
-
--- the cells of the grid, its layers counted
-cells-are : (s : Shape) (g : Grid) → Layered s g → cells (sidesOf s g) ≡ g .width * (g .height * g .layers)
-unfolding cells
-cells-are twoAxes g y = rw y
-cells-are threeAxes g y = ap (λ (n : ℕ). g .width * (g .height * n)) (mul-one (g .layers))
 
 -- the rows of one layer
 pub one-layer-rows : (g : Grid) → Layered twoAxes g → g .width * (g .height * g .layers) ≡ g .width * g .height

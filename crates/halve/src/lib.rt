@@ -1,4 +1,4 @@
-// The splits and ids of a grid that is not refused, inside: `halving` calls it.
+// The splits and ids of a grid that is not refused, inside: `halving_2d` and `halving_3d` call it.
 //
 // The splits are the rule's, and the ids those that the rule makes of them (halve-2d-only, halve-3d-only). The first axis
 // chooses which function of the tree begins, and where the ids' way begins.

@@ -1,17 +1,13 @@
--- The code tests three sides: their cells, products that do not overflow, and that a grid in 2D is tested as its one layer.
+-- The code tests three sides: products that do not overflow, and that a grid in 2D is tested as its one layer.
 use Prim.Native.Nat.{ℕ, _*_, _≤_}
-use native.Mathlib.Nat.{mul-one, mul-le-mul}
-use mathlib.Core.Path.{_≡_, refl, ap}
+use native.Mathlib.Nat.{mul-le-mul}
+use mathlib.Core.Path.{_≡_, refl}
 use mathlib.Core.Bool.{false}
 use mathlib.Core.List.{List, [], _∷_}
 use Rattle.rules.specs.Sums.{any}
 use Rattle.rules.specs.Grid.{cells}
 use Rattle.rules.specs.Refusals.{topSide, firstOf, sideUnfit, gridTests}
 use Rattle.halving_laws.proofs.Accepted.{side-fits}
-
-pub cells-are : (w h d : ℕ) → cells (w ∷ h ∷ d ∷ []) ≡ w * (h * d)
-unfolding cells
-cells-are w h d = ap (λ (n : ℕ). w * (h * n)) (mul-one d)
 
 -- where no side is unfit
 pub products-fit : (w h d : ℕ) → sideUnfit w ≡ false → sideUnfit h ≡ false → sideUnfit d ≡ false

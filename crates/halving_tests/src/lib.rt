@@ -1,4 +1,5 @@
-// Whether a halving is refused, and with which number, inside: `halving` calls it. A grid in 2D is tested as one of one layer.
+// Whether a halving is refused, and with which number, inside: `halving_2d` and `halving_3d` call it. A grid in 2D is tested as
+// one of one layer.
 //
 //   13   the edition is neither 1 nor 2
 //   14   the first axis is not one of the grid's

@@ -11,7 +11,7 @@ use borrow.Author.Tests.{lt-ltb, le-ltb, le-leb, lt-leb}
 use Rattle.rules.specs.Refusals.{topSide, topCells, topDepth, editionUnknown, firstUnknown, sidesUnfit, gridLengthsOff, gridTests}
 use Rattle.halving_laws.proofs.Accepted.{sides-fit}
 use Rattle.blocks.specs.Blocks.{threeAxes, sidesOf}
-use Rattle.halving_tests.proofs.ThreeSides.{cells-are}
+use Rattle.blocks.proofs.AsBlocks.{cells-are}
 use Rattle.halving_tests.proofs.refusal.Statement.{statement}
 use Rattle.halving_tests.proofs.refusal.Tie as tie
 
@@ -52,7 +52,7 @@ small : (c : tie.Else3) → let g = start c .args .g in (g .height * g .layers �
 small c =
     let g = start c .args .g in
     let f = sides-fit (sidesOf threeAxes g) (fit c) in
-    (mul-le-mul (f .0 1 (lit≤ tt) .1) (f .0 2 (lit≤ tt) .1), rw (cells-are (g .width) (g .height) (g .layers)) at (f .1))
+    (mul-le-mul (f .0 1 (lit≤ tt) .1) (f .0 2 (lit≤ tt) .1), rw (cells-are threeAxes g tt) at (f .1))
 
 mul-cells : tie.Need-mul-cells
 mul-cells c = omega (arith, small (c .before .before))
@@ -60,36 +60,40 @@ mul-cells c = omega (arith, small (c .before .before))
 mul-cells-2 : tie.Need-mul-cells-2
 mul-cells-2 c = omega (arith, small (c .before .before .before))
 
+-- where the depth was passed, from where the lengths were tested, and from there where the first axis was
+abbrev deep : tie.After-lengths-off → tie.Else4
+deep c = c .before .before .before
+
+abbrev on-grid : tie.Else4 → tie.Else2
+on-grid c = c .before .before .before
+
 -- the test of the lengths is the definition's
 off : (c : tie.After-lengths-off)
-    → let a = start (c .before .before .before .before) .args in
+    → let a = start (deep c .before) .args in
     c .lengths-off .result ≡ gridLengthsOff (sidesOf threeAxes (a .g)) (a .depth) (length (a .weights .now)) (a .ids) (a .splits)
-off c =
-    let g = start (c .before .before .before .before) .args .g in
-    rw (cells-are (g .width) (g .height) (g .layers)) (c .lengths-off .ensures)
+off c = rw (cells-are threeAxes (start (deep c .before) .args .g) tt) (c .lengths-off .ensures)
 
 returns-5 : tie.Need-returns-5
 unfolding gridTests
 returns-5 c =
-    let lengths = c .before in
-    let depth = lengths .before .before .before in
-    let axis = depth .before .before .before in
-    rw (known axis, on-axis axis, fit (depth .before), le-ltb topDepth _ (depth .if4 .left), sym (off lengths) ∙ c .if5 .taken)
+    let depth = deep (c .before) in
+    let axis = on-grid depth in
+    rw (known axis, on-axis axis, fit (depth .before), le-ltb topDepth _ (depth .if4 .left), sym (off (c .before)) ∙ c .if5 .taken)
 
 returns-6 : tie.Need-returns-6
 unfolding gridTests
 returns-6 c =
     let long = c .before .before in
-    let depth = long .before .before .before .before in
-    let axis = depth .before .before .before in
+    let depth = deep (long .before) in
+    let axis = on-grid depth in
     rw (known axis, on-axis axis, fit (depth .before), le-ltb topDepth _ (depth .if4 .left), sym (off (long .before)) ∙ long .if5 .left, sym (c .before .weight-over .ensures) ∙ c .if6 .taken)
 
 returns-7 : tie.Need-returns-7
 unfolding gridTests
 returns-7 c =
     let long = c .before .before in
-    let depth = long .before .before .before .before in
-    let axis = depth .before .before .before in
+    let depth = deep (long .before) in
+    let axis = on-grid depth in
     rw (known axis, on-axis axis, fit (depth .before), le-ltb topDepth _ (depth .if4 .left), sym (off (long .before)) ∙ long .if5 .left, sym (c .before .weight-over .ensures) ∙ c .if6 .left)
 
 pub refusal-spec : {M : Type 1} → statement M

@@ -6,7 +6,9 @@ use mathlib.Core.Bool.{false}
 use borrow.Author.Needs.{needs}
 use Rattle.rules.specs.Sums.{any}
 use Rattle.rules.specs.Refusals.{topSide, sideUnfit}
-use Rattle.halving_tests.proofs.ThreeSides.{cells-are, products-fit}
+use Rattle.blocks.specs.Blocks.{threeAxes}
+use Rattle.blocks.proofs.AsBlocks.{cells-are}
+use Rattle.halving_tests.proofs.ThreeSides.{products-fit}
 use Rattle.halving_tests.proofs.sides_unfit.Statement.{statement}
 use Rattle.halving_tests.proofs.sides_unfit.Tie as tie
 
@@ -48,7 +50,7 @@ mul-result-2 c = omega (arith, small (c .before .before))
 
 returns-4 : tie.Need-returns-4
 unfolding any
-returns-4 c = let e = each (c .before .before) in rw (e .0, e .1, e .2, cells-are _ _ _)
+returns-4 c = let e = each (c .before .before) in rw (e .0, e .1, e .2, cells-are threeAxes _ tt)
 
 pub sides-unfit-spec : {M : Type 1} → statement M
 sides-unfit-spec =
