@@ -4,17 +4,17 @@ use Prim.Native.Nat.{ℕ, zero, suc, _≤_, _<_}
 use native.Mathlib.Nat.{le-refl, pos-of-ne-zero}
 use native.Mathlib.Omega.{arith}
 use mathlib.Core.Path.{_≡_, refl, sym, ap, _∙_}
-use mathlib.Core.Bool.{Bool, true, false, not, _||_}
+use mathlib.Core.Bool.{Bool, true, false, _||_}
 use mathlib.Core.List.{List, [], _∷_, _++_}
-use lib.Dec.{eqb, lit≤}
+use lib.Dec.{lit≤}
 use lib.ListN.{length, getD}
 use lib.Ieee.{Float}
-use borrow.Author.Tests.{eqb-true, eqb-false, eq-eqb, ltb-false, not-false}
+use borrow.Author.Tests.{eqb-false, eq-eqb, ltb-false}
 use Rattle.rules.specs.Sums.{any}
 use Rattle.rules.specs.Refusals.{Test, test, firstOf, top2, top3, nought, valueUnfit, axisThin, reversed, outside, indexTests, lengthsOff, orderOver, noPoints}
 use Rattle.rules.specs.Axis.{lowOf, highOf, orderOf, extentOf}
 use Rattle.rules.specs.Knots.{filedBy, someUnfit, someThin, thinOver, axisOver, knot, indexAll2, indexAll3}
-use Rattle.laws.proofs.Any.{none, none-at}
+use Rattle.laws.proofs.Any.{none, none-at, length-fits}
 use Rattle.laws.proofs.Exactly.{none-passes, first-earlier, first-later}
 use Rattle.axis_laws.proofs.AtMost.{at-most→nlt}
 use Rattle.axis_laws.proofs.Passed.{fit-finite, inside}
@@ -105,10 +105,6 @@ module _ (order : ℕ) where
       go true e = rw (fit-ends, ordered, all-as-thin axes, e)
       go false e = rw (fit-ends, ordered, all-as-thin axes, all-own e, fit-points, all-within e)
 
--- a length that is not off
-same-length : (n : ℕ) (lengths : List ℕ) → lengthsOff n lengths ≡ false → (i : ℕ) → i < length lengths → getD lengths i 0 ≡ n
-same-length n lengths e i h = eqb-true _ n (not-false _ (none-at (λ m. not (eqb m n)) 0 lengths e i h))
-
 -- THE CALL, of n points: each axis has as many where no length is off
 module _ (most order n : ℕ) (few : most ≤ top2) (lengths : List ℕ) (axes : List (List Float)) (fit : someUnfit axes ≡ false) (as-many : lengthsOff n lengths ≡ false → (i : ℕ) → i < length axes → length (getD axes i []) ≡ n) where
   -- the tests of the order and of the lengths
@@ -145,7 +141,7 @@ index-all-2d-is-on xs ys order before fit =
   where
     as-many : lengthsOff (length xs) (length ys ∷ length before ∷ []) ≡ false → (i : ℕ) → i < 2 → length (getD (xs ∷ ys ∷ []) i []) ≡ length xs
     as-many e zero h = refl
-    as-many e (suc zero) h = same-length (length xs) (length ys ∷ length before ∷ []) e 0 (lit≤ tt)
+    as-many e (suc zero) h = length-fits (length xs) (length ys ∷ length before ∷ []) e 0 (lit≤ tt)
     as-many e (suc (suc i)) h = absurd (omega arith)
 
 pub index-all-3d-is-on : (xs ys zs : List Float) (order : ℕ) (before : List ℕ) → someUnfit (xs ∷ ys ∷ zs ∷ []) ≡ false
@@ -156,6 +152,6 @@ index-all-3d-is-on xs ys zs order before fit =
   where
     as-many : lengthsOff (length xs) (length ys ∷ length zs ∷ length before ∷ []) ≡ false → (i : ℕ) → i < 3 → length (getD (xs ∷ ys ∷ zs ∷ []) i []) ≡ length xs
     as-many e zero h = refl
-    as-many e (suc zero) h = same-length (length xs) (length ys ∷ length zs ∷ length before ∷ []) e 0 (lit≤ tt)
-    as-many e (suc (suc zero)) h = same-length (length xs) (length ys ∷ length zs ∷ length before ∷ []) e 1 (lit≤ tt)
+    as-many e (suc zero) h = length-fits (length xs) (length ys ∷ length zs ∷ length before ∷ []) e 0 (lit≤ tt)
+    as-many e (suc (suc zero)) h = length-fits (length xs) (length ys ∷ length zs ∷ length before ∷ []) e 1 (lit≤ tt)
     as-many e (suc (suc (suc i))) h = absurd (omega arith)

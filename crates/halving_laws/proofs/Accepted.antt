@@ -1,38 +1,29 @@
 -- A call whose number is 0 passed every test, and what each test says of it then holds.
-use Prim.Native.Nat.{ℕ, zero, suc, _-_, _^_, _≤_, _<_}
-use native.Mathlib.Omega.{arith}
-use mathlib.Core.Path.{_≡_, refl}
-use mathlib.Core.Bool.{false, not}
+use Prim.Native.Nat.{ℕ, _-_, _^_, _≤_, _<_}
+use native.Mathlib.Nat.{pos-of-ne-zero}
+use mathlib.Core.Path.{_≡_}
+use mathlib.Core.Bool.{false}
 use mathlib.Core.List.{List, [], _∷_}
 use lib.Dec.{eqb, ltb, lit≤}
-use lib.ListN.{getD, length}
-use borrow.Author.Tests.{eqb-true, eqb-false, leb-false, ltb-false, not-false}
+use lib.ListN.{length}
+use borrow.Author.Tests.{eqb-false, leb-false, ltb-false}
 use Rattle.rules.specs.Sums.{any}
 use Rattle.rules.specs.Grid.{cells, on}
 use Rattle.rules.specs.Refusals.{topSide, topCells, topDepth, topWeight, sideUnfit, sidesUnfit, lengthsOff, gridTests}
 use Rattle.rules.specs.Halving.{Halving, halvingTests, refusalOf}
-use Rattle.laws.proofs.Any.{neither, none-at}
+use Rattle.laws.proofs.Any.{neither, none-at, length-fits}
 use Rattle.laws.proofs.Exactly.{none-passes}
 use Rattle.halving_laws.specs.Accepted.{Accepted}
 
 pub side-fits : (s : ℕ) → sideUnfit s ≡ false → (1 ≤ s) × (s ≤ topSide)
 side-fits s e =
     let t = neither (eqb s 0) (ltb topSide s) e in
-    let some = eqb-false s 0 (t .0) in
-    (pos s some, ltb-false topSide s (t .1))
-  where
-    pos : (s : ℕ) → (s ≡ 0 → ⊥) → 1 ≤ s
-    pos zero f = absurd (f refl)
-    pos (suc s) f = omega arith
+    (pos-of-ne-zero (eqb-false s 0 (t .0)), ltb-false topSide s (t .1))
 
 pub sides-fit : (sides : List ℕ) → sidesUnfit sides ≡ false → ((a : ℕ) → a < length sides → (1 ≤ on sides a) × (on sides a ≤ topSide)) × (cells sides ≤ topCells)
 sides-fit sides e =
     let t = neither (any sideUnfit sides) (ltb topCells (cells sides)) e in
     (λ a l. side-fits (on sides a) (none-at sideUnfit 0 sides (t .0) a l), ltb-false topCells (cells sides) (t .1))
-
--- the i-th of some lengths
-length-fits : (n : ℕ) (lengths : List ℕ) → lengthsOff n lengths ≡ false → (i : ℕ) → i < length lengths → getD lengths i 0 ≡ n
-length-fits n lengths e i l = eqb-true _ n (not-false _ (none-at (λ m. not (eqb m n)) 0 lengths e i l))
 
 pub accepted : (h : Halving) (ws splits ids : List ℕ) → refusalOf h ws splits ids ≡ 0 → Accepted h ws splits ids
 unfolding gridTests

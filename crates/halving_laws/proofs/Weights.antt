@@ -11,8 +11,9 @@ use lib.ListN.{getD, length}
 use borrow.Author.Tests.{lt-ltb, le-ltb, ltb-true, ltb-false, eq-eqb, eqb-true, not-true}
 use Rattle.rules.specs.Sums.{total, sumWhere, top}
 use Rattle.rules.specs.Grid.{cells, coords, on, Block, whole, inside, edge, side, before, after, allWeight, weight, line, heaviest, heaviestLine}
+use Rattle.laws.proofs.Any.{never}
 use Rattle.laws.proofs.Totals.{where-ext, where-all, where-none, where-mono, where-split, top-le, le-top}
-use Rattle.halving_laws.proofs.Blocks.{both, same-test, whole-length, inside-whole, inside-before, inside-after, inside-edge, never}
+use Rattle.halving_laws.proofs.Blocks.{both, same-test, whole-length, inside-whole, inside-before, inside-after, inside-edge}
 
 module _ (sides ws : List ℕ) where
   -- a block's two parts weigh what it does

@@ -2,17 +2,16 @@
 use Prim.Native.Nat.{ℕ, _≤_, _<_}
 use native.Mathlib.Nat.{pos-of-ne-zero}
 use mathlib.Core.Path.{_≡_}
-use mathlib.Core.Bool.{not, false}
+use mathlib.Core.Bool.{false}
 use mathlib.Core.List.{List, []}
-use lib.Dec.{eqb}
 use lib.ListN.{length, getD}
 use lib.Ieee.{Float}
-use borrow.Author.Tests.{eqb-true, eqb-false, ltb-false, not-false}
+use borrow.Author.Tests.{eqb-false, ltb-false}
 use Rattle.rules.specs.Sums.{any}
 use Rattle.rules.specs.Refusals.{firstOf, valueUnfit, indexTests}
 use Rattle.rules.specs.Knots.{someUnfit}
 use Rattle.laws.proofs.Exactly.{none-passes}
-use Rattle.laws.proofs.Any.{none-at}
+use Rattle.laws.proofs.Any.{none-at, length-fits}
 use Rattle.knots_tests.specs.Tests.{pointTests}
 
 -- axis i has the coordinates axes i, and slice i the length lengths i
@@ -29,6 +28,6 @@ passed most order n lengths axes e =
     record {
       few = ltb-false most order (p .0);
       some = pos-of-ne-zero (eqb-false n 0 (p .1 .0));
-      long = λ i l. eqb-true _ n (not-false _ (none-at (λ m. not (eqb m n)) 0 lengths (p .1 .1 .0) i l));
+      long = length-fits n lengths (p .1 .1 .0);
       fit = none-at (any valueUnfit) [] axes (p .1 .1 .1 .0);
     }

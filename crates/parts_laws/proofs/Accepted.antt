@@ -2,15 +2,15 @@
 use Prim.Native.Nat.{ℕ, zero, suc, _<_}
 use native.Mathlib.Nat.{pos-of-ne-zero}
 use mathlib.Core.Path.{_≡_, refl}
-use mathlib.Core.Bool.{not, _||_}
+use mathlib.Core.Bool.{_||_}
 use mathlib.Core.List.{List, [], _∷_}
 use lib.Dec.{eqb, ltb, lit≤}
 use lib.ListN.{length, getD}
-use borrow.Author.Tests.{eqb-true, eqb-false, ltb-false, not-false}
+use borrow.Author.Tests.{eqb-false, ltb-false}
 use Rattle.rules.specs.Refusals.{topWeight, firstOf, sliceBy}
 use Rattle.requests.specs.Order.{topPoints, orderOf}
 use Rattle.requests.specs.Parts.{topParts, partsTests, partsOf, partsAlong}
-use Rattle.laws.proofs.Any.{neither, none-at}
+use Rattle.laws.proofs.Any.{neither, none-at, length-fits}
 use Rattle.laws.proofs.Exactly.{none-passes}
 use Rattle.parts_laws.specs.Accepted.{Accepted}
 
@@ -24,8 +24,7 @@ module _ (n : ℕ) (ix ws parts order : List ℕ) where
   -- the lent slices have a place for each point
   pub lengths-fit : refusal ≡ 0 → (i : ℕ) → i < 3 → getD lengths i 0 ≡ length ix
   unfolding partsTests
-  lengths-fit e i l =
-      eqb-true _ _ (not-false _ (none-at (λ m. not (eqb m (length ix))) 0 lengths (none-passes (partsTests n ix ws parts order) tt e .1 .1 .0) i l))
+  lengths-fit e = length-fits (length ix) lengths (none-passes (partsTests n ix ws parts order) tt e .1 .1 .0)
 
   pub accepted : refusal ≡ 0 → Accepted n ix ws
   unfolding partsTests

@@ -8,8 +8,8 @@ use mathlib.Core.Bool.{Bool, true, false}
 use mathlib.Core.Path.{_≡_, refl}
 use Rattle.rules.specs.Sums.{pick, total, top}
 use Rattle.requests.specs.Parts.{count, least}
+use Rattle.laws.proofs.Any.{never}
 use Rattle.laws.proofs.Totals.{top-le}
-use Rattle.parts_laws.proofs.Before.{never}
 
 at-most : {i n : ℕ} → i < suc n → i ≤ n
 at-most h = omega arith

@@ -1,5 +1,4 @@
 pub mod Points
-pub mod Scan
 pub mod Written
 pub mod Axes
 pub mod Once

@@ -3,9 +3,10 @@ use mathlib.Core.Path.{_≡_, refl, sym, _∙_}
 use Prim.Native.Nat.{_<_, _-_}
 use borrow.Author.Needs.{needs}
 use lib.ListN.{length, drop}
+use lib.Ieee.{nan}
 use Rattle.rules.specs.Sums.{any}
 use Rattle.rules.specs.Refusals.{outside}
-use Rattle.points.proofs.Scan.{further, found, ended}
+use Rattle.laws.proofs.Scan.{further, found, ended}
 use Rattle.given_tests.proofs.any_outside.Statement.{statement}
 use Rattle.given_tests.proofs.any_outside.Tie as tie
 
@@ -22,16 +23,16 @@ returns : tie.Need-returns Inv-loop μ-loop
 returns c =
     let l = c .before .before .before .before in
     let h : l .loop .i < length (l .before .before .args .xs .now) = search needs in
-    found _ _ _ h (l .loop .inv) (sym (c .before .is-outside .ensures) ∙ c .if1 .taken)
+    found _ _ _ _ h (l .loop .inv) (sym (c .before .is-outside .ensures) ∙ c .if1 .taken)
 
 loop-again : tie.Need-loop-again Inv-loop μ-loop
 loop-again c =
     let l = c .before .before .before .before in
     let h : l .loop .i < length (l .before .before .args .xs .now) = search needs in
-    further _ _ _ _ h (l .loop .inv) (sym (c .before .is-outside .ensures) ∙ c .if1 .left)
+    further _ _ _ _ _ h (l .loop .inv) (sym (c .before .is-outside .ensures) ∙ c .if1 .left)
 
 returns-2 : tie.Need-returns-2 Inv-loop μ-loop
-returns-2 c = ended _ _ _ (c .loop-test .left) (c .before .loop .inv)
+returns-2 c = ended _ nan _ _ (c .loop-test .left) (c .before .loop .inv)
 
 pub any-outside-spec : {M : Type 1} → statement M
 any-outside-spec =
