@@ -2,7 +2,6 @@
 use mathlib.Core.Path.{_≡_, sym, subst}
 use Prim.Native.Nat.{ℕ, _≤_}
 use mathlib.Core.Bool.{Bool, true, false, _&&_, _||_}
-use mathlib.Core.List.{[], _∷_}
 use lib.IntN.{pos}
 use lib.Dec.{T}
 use borrow.Author.Tests.{ltb-false, not-false}

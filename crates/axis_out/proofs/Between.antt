@@ -1,12 +1,12 @@
 -- The cell of a value on an axis that is made first is refused exactly by the axis's tests, then the value's: an axis that is made is not made up, and
 -- has the low and high that it was made of. Assumes nothing.
 use Prim.Native.Nat.{ℕ, zero, suc}
-use mathlib.Core.Path.{_≡_, refl, sym, _∙_}
+use mathlib.Core.Path.{_≡_, refl, _∙_}
 use mathlib.Core.Bool.{false}
 use mathlib.Core.List.{List, [], _∷_, _++_}
 use lib.Ieee.{Float}
 use Rattle.rules.specs.Refusals.{Test, test, firstOf, valueUnfit, outside, axisTests, cellTests, axisBy, readCell}
-use Rattle.rules.specs.Axis.{axisOf, makeAxis, lowOf, highOf, orderOf, madeUp, cellOn, cellOf}
+use Rattle.rules.specs.Axis.{axisOf, makeAxis, madeUp, cellOn, cellOf}
 use Rattle.rules.specs.declared.Axis.{Axis}
 use Rattle.rules.specs.declared.AxisAnswer.the-variants as made
 use Rattle.laws.proofs.Readings.{valueBy, read-cell}

@@ -1,9 +1,8 @@
 -- The bounds of demand 3 are not idle: grids in which a part comes near them, by computing. Assumes nothing.
 use Prim.Native.Nat.{ℕ, _+_, _*_, _^_}
-use mathlib.Core.Bool.{_&&_}
 use mathlib.Core.List.{List, [], _∷_}
 use lib.ListN.{replicate}
-use lib.Dec.{T, leb, ltb}
+use lib.Dec.{T, leb}
 use Rattle.rules.specs.Sums.{pick, total, top, list}
 use Rattle.rules.specs.Grid.{cells, coords, whole, inside, edge, side, before, after, allWeight, weight, line, heaviest, heaviestLine}
 use Rattle.rules.specs.Halving.{loOf, hiOf, editionOf, reach, settle, cutOf, cutAt, nextAxis, unlessFlat, fill, splitsOf, turn, walk, idOf, idsOf, halving2, of2, idsBy}

@@ -1,7 +1,7 @@
 -- What each answer stands for: the number that made it, and its value where that number is 0, else zeros. Assumes nothing.
 use Prim.Native.Nat.{ℕ, zero, suc}
 use mathlib.Core.Path.{_≡_, refl}
-use mathlib.Core.List.{List, [], _∷_}
+use mathlib.Core.List.{[], _∷_}
 use Rattle.rules.specs.Refusals.{nought, Reading, codedBy, cell2By, cell3By, axisBy, cellBy, readCoded, readCell2, readCell3, readAxis, readCell}
 use Rattle.rules.specs.declared.Axis.{Axis}
 use Rattle.rules.specs.declared.Axis.the-variants.{Flat}

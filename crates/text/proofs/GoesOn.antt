@@ -1,14 +1,14 @@
 -- Every token lies in its text and goes on from where it was looked for. Assumes nothing.
 use Prim.Native.Nat.{ℕ, zero, suc, _+_, _-_, _≤_, _<_}
-use mathlib.Core.Path.{_≡_, refl, subst, sym}
-use mathlib.Core.Bool.{Bool, true, false, not, _||_, true≢false, cond}
+use mathlib.Core.Path.{_≡_, refl}
+use mathlib.Core.Bool.{Bool, true, false, not, cond}
 use mathlib.Core.List.{List}
 use native.Mathlib.Omega.{arith}
 use lib.ListN.{getD, length}
 use lib.Dec.{leb}
-use borrow.Author.Tests.{leb-true, leb-false}
+use borrow.Author.Tests.{leb-false}
 use Rattle.text.specs.Bytes.{isGap, isLineEnd, isHash}
-use Rattle.text.specs.Tokens.{firstFrom, stopsOf, runEnd, tokenOn, tokenAt}
+use Rattle.text.specs.Tokens.{firstFrom, stopsOf, runEnd, tokenAt}
 use Rattle.text.specs.declared.token.Run.{Run}
 use Rattle.text.specs.declared.token.Run.the-variants as run
 use Rattle.text.specs.declared.token.Token.{Token}

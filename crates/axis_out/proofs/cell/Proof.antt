@@ -1,5 +1,5 @@
 -- `cell` hands out the number and the value that the answer stands for; after a refusal both are read of the refusal. Assumes nothing.
-use mathlib.Core.Path.{_≡_, _∙_, ap, sym}
+use mathlib.Core.Path.{_∙_, ap, sym}
 use borrow.Author.Needs.{needs}
 use Rattle.rules.specs.Refusals.{readCell}
 use Rattle.rules.specs.declared.CellAnswer.{CellAnswer}

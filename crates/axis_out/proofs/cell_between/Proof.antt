@@ -1,5 +1,5 @@
 -- `cell_between` meets its contract: the axis is that of the rule, or its refusal is handed on. Assumes nothing.
-use mathlib.Core.Path.{_≡_, _∙_, ap}
+use mathlib.Core.Path.{_∙_, ap}
 use borrow.Author.Needs.{needs}
 use Rattle.rules.specs.Refusals.{readAxis}
 use Rattle.rules.specs.declared.AxisAnswer.{AxisAnswer}

@@ -1,6 +1,6 @@
 -- `walk_2d` meets its contract: what is done, shifted up, and what the machine makes of the levels to come in the state that is reached, is the
 -- whole index; an entry of the table is six steps of the machine. Assumes nothing.
-use Prim.Native.Nat.{ℕ, _≤_, _<_, _+_, _-_, _*_, _/_, _%_, _^_}
+use Prim.Native.Nat.{ℕ, _≤_, _<_, _+_, _-_, _*_, _/_, _^_}
 use mathlib.Core.Path.{_≡_}
 use native.Mathlib.Omega.{arith}
 use borrow.Author.Needs.{needs}

@@ -1,7 +1,6 @@
 -- `lengths_off` meets its contract: the three tests are those of the definition.
 use mathlib.Core.Path.{sym}
 use mathlib.Core.Bool.{or-false}
-use borrow.Author.Needs.{needs}
 use borrow.Author.Tests.{eq-eqb, ne-eqb}
 use Rattle.rules.specs.Sums.{any}
 use Rattle.parts_tests.proofs.lengths_off.Statement.{statement}

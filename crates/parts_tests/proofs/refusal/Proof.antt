@@ -1,10 +1,8 @@
 -- `refusal` meets its contract: the tests come in the order of the definition.
-use mathlib.Core.Path.{_≡_, sym, _∙_}
-use mathlib.Core.Bool.{false}
-use lib.ListN.{length}
+use mathlib.Core.Path.{sym, _∙_}
 use borrow.Author.Needs.{needs}
 use borrow.Author.Tests.{eq-eqb, ne-eqb}
-use Rattle.requests.specs.Parts.{countsUnfit, partsTests}
+use Rattle.requests.specs.Parts.{partsTests}
 use Rattle.parts_tests.proofs.refusal.Statement.{statement}
 use Rattle.parts_tests.proofs.refusal.Tie as tie
 

@@ -1,7 +1,7 @@
 -- Each return rewrites with the tests that led to it.
 use Prim.Native.Nat.{ℕ, _+_, _-_, _*_, _/_, _≤_, _<_}
 use borrow.Author.Tests.{le-leb, lt-leb, not-true, not-false}
-use mathlib.Core.Path.{_≡_, sym, _∙_}
+use mathlib.Core.Path.{sym, _∙_}
 use native.Mathlib.Omega.{arith}
 use Rattle.wholes.proofs.Digits.{digit-range}
 use borrow.Author.Needs.{needs}

@@ -1,5 +1,5 @@
 -- Each return rewrites with the tests that led to it, at the end of the gaps.
-use mathlib.Core.Path.{_≡_, sym, ap}
+use mathlib.Core.Path.{ap}
 use borrow.Author.Tests.{le-leb, lt-leb, eq-eqb, ne-eqb}
 use Rattle.text.specs.Tokens.{tokenAt}
 use Rattle.text.specs.declared.token.Token.the-variants.{Word, Comment}

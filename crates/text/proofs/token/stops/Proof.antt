@@ -1,7 +1,7 @@
 -- Each case is that of the rule, and each return rewrites with the tests that led to it.
 use mathlib.Core.Bool.{not}
 use mathlib.Core.Path.{ap}
-use mathlib.Core.Path.{_≡_, sym, _∙_}
+use mathlib.Core.Path.{sym, _∙_}
 use borrow.Author.Tests.{eq-eqb, ne-eqb}
 use Rattle.text.specs.Tokens.{stopsOf}
 use borrow.Author.Needs.{needs}
