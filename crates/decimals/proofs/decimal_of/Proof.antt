@@ -19,24 +19,9 @@ loop-holds : tie.Need-loop-holds Inv-loop μ-loop
 unfolding metTo
 loop-holds c = (omega arith, refl)
 
-shared-slice-read-step : tie.Need-shared-slice-read-step Inv-loop μ-loop
-shared-slice-read-step c = search needs
-
-step-requires : tie.Need-step-requires Inv-loop μ-loop
-step-requires c κs = search needs
-
-add-i : tie.Need-add-i Inv-loop μ-loop
-add-i c = search needs
-
-loop-less : tie.Need-loop-less Inv-loop μ-loop
-loop-less c = search needs
-
 loop-again : tie.Need-loop-again Inv-loop μ-loop
 unfolding metTo
 loop-again c = (omega arith, rw add-one (c .step .ensures ∙ rw (c .before .before .before .loop .inv .1)))
-
-end-requires : tie.Need-end-requires Inv-loop μ-loop
-end-requires c κs = search needs
 
 returns : tie.Need-returns Inv-loop μ-loop
 unfolding decimalOf
@@ -49,10 +34,10 @@ decimal-of-spec =
     Inv-loop
     μ-loop
     loop-holds
-    shared-slice-read-step
-    step-requires
-    add-i
-    loop-less
+    (λ c. search needs)
+    (λ c κs. search needs)
+    (λ c. search needs)
+    (λ c. search needs)
     loop-again
-    end-requires
+    (λ c κs. search needs)
     returns)
