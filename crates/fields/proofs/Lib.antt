@@ -1,4 +1,5 @@
 pub mod Reading
+pub mod Plain
 pub mod GoesOn
 pub mod Examples
 pub mod Once
