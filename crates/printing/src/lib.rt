@@ -3,8 +3,8 @@
 //
 // Where standard output takes no more, that is said on standard error once, and the place is `LOST` from then on: nothing is put there.
 // So who prints hands the place on, and asks at the end whether `flush` could write everything.
-use libc::STDERR_FILENO;
 use libc::STDOUT_FILENO;
+use words::status::say_system;
 ghost use Prim.Native.Nat.{_≤_, _<_};
 
 // The place behind something that could not be written.
@@ -14,8 +14,7 @@ pub const LOST: usize = 4097;
 pub fn say_lost()
     ensures { λ _. ⊤ₛ }
 {
-    io::write_all(STDERR_FILENO, b"skarvolm: ");
-    os::fail(b"standard output");
+    say_system(b"standard output");
 }
 
 // Writes the first `at` bytes, and whether they could be written.
