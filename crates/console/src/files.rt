@@ -1,7 +1,7 @@
 // A file, read whole.
-use libc::STDERR_FILENO;
 use libc::STDIN_FILENO;
 use words::same;
+use words::status::say_system;
 ghost use mathlib.Core.Path.{_≡_};
 ghost use lib.ListN.{take};
 
@@ -9,12 +9,6 @@ ghost use lib.ListN.{take};
 pub enum Size {
     Bytes(usize),
     Unread,
-}
-
-// Says of a file what the system says of the call that failed last.
-fn failed(path: &[u8]) {
-    io::write_all(STDERR_FILENO, b"skarvolm: ");
-    os::fail(path);
 }
 
 // The descriptor of a file, of standard input where the name is `-`; below 0 where it cannot be opened.
@@ -69,12 +63,12 @@ pub fn read(path: &[u8], bytes: &mut [u8; 4194304]) -> Size
 {
     let file = open(path);
     if file < 0 {
-        failed(path);
+        say_system(path);
         return Size::Unread;
     }
     let got = read_open(file, bytes);
     let Size::Bytes(size) = got else {
-        failed(path);
+        say_system(path);
         return Size::Unread;
     };
     libc::close(file);

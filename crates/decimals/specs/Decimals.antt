@@ -1,5 +1,6 @@
 -- A decimal out of a word: what its bytes are, step by step, and then one rounding of the exact value. Assumes nothing.
-use Prim.Native.Nat.{ℕ, zero, suc, _+_, _-_, _*_, _^_}
+use Prim.Native.Nat.{ℕ, zero, suc, _+_, _-_, _*_, _^_, _≤_}
+use mathlib.Core.Path.{_≡_}
 use mathlib.Core.Bool.{Bool, true, false, cond}
 use mathlib.Core.List.{List}
 use lib.ListN.{getD, length}
@@ -10,6 +11,7 @@ use Rattle.decimal_steps.specs.declared.Met.{Met}
 use Rattle.decimal_steps.specs.declared.Met.the-variants as met
 use Rattle.exponents.specs.declared.Exponent.{Exponent}
 use Rattle.exponents.specs.declared.Exponent.the-variants as exponent
+use Rattle.decimals.specs.declared.Part.{Part}
 use Rattle.decimals.specs.declared.Decimal.{Decimal}
 use Rattle.decimals.specs.declared.Decimal.the-variants.{Value, Odd, Long, Deep, High, Short}
 
@@ -47,3 +49,16 @@ metTo w (suc n) = metStep (metTo w n) (getD w n 0) n
 
 unfoldable pub decimalOf : List ℕ → Decimal
 decimalOf w = endOf (metTo w (length w)) (length w)
+
+-- what has been met before a place of a word
+abbrev pub MetBefore : List ℕ → Met → ℕ → Type 0
+MetBefore w m at = (at ≤ length w) × (m ≡ metTo w at)
+
+-- of n bytes that are the digits of a whole number
+abbrev pub wholeMet : ℕ → ℕ → Met
+wholeMet zero digits = met.Start
+wholeMet (suc n) digits = met.Whole false digits
+
+-- of digits and a point, and of the digits from a place on behind it
+abbrev pub decimalMet : ℕ → ℕ → ℕ → Met
+decimalMet from digits next = met.Decimals false digits (next - from)

@@ -9,8 +9,13 @@ use decimal_steps::step;
 use exponents::Exponent;
 use ratio::over_tens;
 use ratio::times_tens;
+use wholes::is_digit;
+ghost use Prim.Native.Nat.{_+_, _-_, _*_, _≤_};
+ghost use mathlib.Core.Bool.{true};
 ghost use mathlib.Core.Path.{_≡_};
-ghost use Rattle.decimals.specs.Decimals.{valueOf, poweredOf, endOf, decimalOf};
+ghost use Rattle.decimals.specs.Decimals.{valueOf, poweredOf, endOf, metTo, decimalOf, MetBefore, wholeMet, decimalMet};
+ghost use lib.ListN.{length};
+ghost use Rattle.wholes.specs.Wholes.{isDigit};
 
 // A word read as a decimal: its value, or the place of a byte that stands wrong, of a 20th digit, of a place too deep behind the
 // point, of one too high before it, or of the end where a digit is missing.
@@ -21,6 +26,18 @@ pub enum Decimal {
     Deep(usize),
     High(usize),
     Short(usize),
+}
+
+// Digits of a word, and the place behind them.
+pub struct Part {
+    digits: u64,
+    next: usize,
+}
+
+// What has been met before a place of a word.
+pub struct Begun {
+    met: Met,
+    next: usize,
 }
 
 // digits * 10^up / 10^down, in a word that ends at `at`.
@@ -85,15 +102,109 @@ fn end(met: Met, at: usize) -> Decimal
     }
 }
 
-// The word's value, or where it is wrong.
-pub fn decimal_of(word: &[u8]) -> Decimal
-    ensures { λ r. ⌜ r ≡ decimalOf (now (word .entry)) ⌝ }
+// A number with one digit more.
+fn with_digit(digits: u64, b: u8) -> u64
+    requires { ⌜ (isDigit b ≡ true) × (digits ≤ 999999999999999999) ⌝ }
+    ensures { λ r. ⌜ r ≡ 10 * digits + (b - 48) ⌝ }
 {
-    let mut met = Met::Start;
-    let mut i: usize = 0;
+    10 * digits + (b - b'0') as u64
+}
+
+// The whole number that a word begins with, and the place behind its digits; nothing where it begins otherwise.
+fn whole_part(word: &[u8]) -> Part
+    ensures { λ r. ⌜ MetBefore (now (word .entry)) (wholeMet (r .next) (r .digits)) (r .next) ⌝ }
+{
+    let mut digits: u64 = 0;
+    let mut next: usize = 0;
+    while next < word.len() {
+        let b = word[next];
+        if !is_digit(b) {
+            return Part { digits, next };
+        }
+        if digits > 999999999999999999 {
+            return Part { digits, next };
+        }
+        digits = with_digit(digits, b);
+        next += 1;
+    }
+    Part { digits, next }
+}
+
+// All digits of a word whose whole ones, and a point, stand before `from`, and the place behind them; at most 44 behind the point.
+fn decimal_part(word: &[u8], from: usize, whole: u64) -> Part
+    requires { ⌜ MetBefore (now word) (decimalMet from whole from) from ⌝ }
+    ensures { λ r. ⌜ (from ≤ r .next) × (r .next ≤ from + 44) ⌝ }
+    ensures { λ r. ⌜ MetBefore (now (word .entry)) (decimalMet from (r .digits) (r .next)) (r .next) ⌝ }
+{
+    let mut digits = whole;
+    let mut next = from;
+    while next < word.len() {
+        let b = word[next];
+        if !is_digit(b) {
+            return Part { digits, next };
+        }
+        if digits > 999999999999999999 {
+            return Part { digits, next };
+        }
+        if next - from > 43 {
+            return Part { digits, next };
+        }
+        digits = with_digit(digits, b);
+        next += 1;
+    }
+    Part { digits, next }
+}
+
+// What has been met of a word's digits, with a point or none, and the place behind them.
+fn begin(word: &[u8]) -> Begun
+    ensures { λ r. ⌜ MetBefore (now (word .entry)) (r .met) (r .next) ⌝ }
+{
+    let whole = whole_part(word);
+    let next = whole.next;
+    if next == 0 {
+        return Begun {
+            met: Met::Start,
+            next,
+        };
+    }
+    if next == word.len() {
+        return Begun {
+            met: Met::Whole(false, whole.digits),
+            next,
+        };
+    }
+    if word[next] != b'.' {
+        return Begun {
+            met: Met::Whole(false, whole.digits),
+            next,
+        };
+    }
+    let all = decimal_part(word, next + 1, whole.digits);
+    Begun {
+        met: Met::Decimals(false, all.digits, (all.next - (next + 1)) as u32),
+        next: all.next,
+    }
+}
+
+// The word's value, or where it is wrong, from what has been met before a place.
+fn ended(word: &[u8], first: Met, from: usize) -> Decimal
+    requires { ⌜ MetBefore (now word) first from ⌝ }
+    ensures { λ r. ⌜ r ≡ endOf (metTo (now (word .entry)) (length (now (word .entry)))) (length (now (word .entry))) ⌝ }
+{
+    let mut met = first;
+    let mut i = from;
     while i < word.len() {
         met = step(met, word[i], i);
         i += 1;
     }
     end(met, i)
+}
+
+// The word's value, or where it is wrong.
+pub fn decimal_of(word: &[u8]) -> Decimal
+    ensures { λ r. ⌜ r ≡ decimalOf (now (word .entry)) ⌝ }
+{
+    let start = begin(word);
+    let met = start.met;
+    ended(word, met, start.next)
 }

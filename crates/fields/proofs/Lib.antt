@@ -1,3 +1,4 @@
+pub mod Plain
 pub mod GoesOn
 pub mod Examples
 pub mod Once

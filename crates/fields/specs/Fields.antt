@@ -21,6 +21,10 @@ isBlank separator b = isSpace b || (isTab b && not (isTab separator))
 unfoldable pub parts : ℕ → ℕ → Bool
 parts separator b = eqb b separator || (eqb separator 32 && isBlank separator b)
 
+-- above blanks, quotes and hashes, and no separator
+unfoldable pub isPlain : ℕ → ℕ → Bool
+isPlain separator b = ltb 35 b && not (eqb b separator)
+
 -- one byte more of a field without quotes: it goes on to a byte that parts, a line's end, or a # behind a blank; blanks at its end do not belong to it
 abbrev pub bareByte : ℕ → ℕ → ℕ → ℕ → ℕ → Bare
 bareByte separator end b at next =

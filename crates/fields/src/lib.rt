@@ -10,7 +10,7 @@
 // the text and goes on from where it was looked for (`field-goes-on`).
 pub use separators::separator_of;
 ghost use mathlib.Core.Path.{_≡_};
-ghost use Rattle.fields.specs.Fields.{isBlank, parts, bareByte, bareAt, openByte, quotedByte, closedByte, behindByte, commentByte, fieldByte, isMet, fieldEnd, fieldAt};
+ghost use Rattle.fields.specs.Fields.{isBlank, parts, isPlain, bareByte, bareAt, openByte, quotedByte, closedByte, behindByte, commentByte, fieldByte, isMet, fieldEnd, fieldAt};
 
 // What stands next in a text: a field from its first byte to before another (it may be empty) with the place where the next may
 // begin, a comment or a line's end with the place after it, or the text's end.
@@ -68,10 +68,23 @@ fn parts_fields(b: u8, separator: u8) -> bool
     is_blank(b, separator)
 }
 
+// Whether a byte belongs to a field wherever it stands: it parts nothing and is none of the others, which lie below it.
+fn is_plain(b: u8, separator: u8) -> bool
+    ensures { λ r. ⌜ r ≡ isPlain separator b ⌝ }
+{
+    if b <= b'#' {
+        return false;
+    }
+    b != separator
+}
+
 // One byte more of a field without quotes.
 fn bare_byte(end: usize, b: u8, at: usize, next: usize, separator: u8) -> Bare
     ensures { λ r. ⌜ r ≡ bareByte separator end b at next ⌝ }
 {
+    if is_plain(b, separator) {
+        return Bare::Going(next);
+    }
     if b == b'\n' {
         return Bare::Ended(end, at);
     }
@@ -246,8 +259,8 @@ fn ended(text: &[u8], met: Met, separator: u8) -> Field
     }
 }
 
-// What stands next in the text from `at` on, where a field may begin.
-pub fn field_at(text: &[u8], at: usize, separator: u8) -> Field
+// What stands next, a byte after the other.
+fn met_from(text: &[u8], at: usize, separator: u8) -> Field
     ensures { λ r. ⌜ r ≡ fieldAt separator (now (text .entry)) at ⌝ }
 {
     let mut met = Met::Open;
@@ -260,4 +273,20 @@ pub fn field_at(text: &[u8], at: usize, separator: u8) -> Field
         i += 1;
     }
     ended(text, met, separator)
+}
+
+// What stands next in the text from `at` on, where a field may begin.
+pub fn field_at(text: &[u8], at: usize, separator: u8) -> Field
+    ensures { λ r. ⌜ r ≡ fieldAt separator (now (text .entry)) at ⌝ }
+{
+    if at < text.len() {
+        let b = text[at];
+        if is_plain(b, separator) {
+            return bare_from(text, at, separator);
+        }
+        if b == b'\n' {
+            return Field::LineEnd(at + 1);
+        }
+    }
+    met_from(text, at, separator)
 }

@@ -5,3 +5,4 @@ pub mod asked;
 pub mod lines;
 pub mod notes;
 pub mod places;
+mod shared;

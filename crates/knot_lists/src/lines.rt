@@ -1,13 +1,12 @@
 // The list of indices: what it is, the header, and each knot's line behind its index.
 use crate::asked;
 use crate::notes;
-use crate::places::number_at;
 use crate::places::place_of;
+use crate::shared;
 use console::lines::line_end;
 use console::lines::part;
 use knot_columns::columns::Columns;
 use knot_files::layout::Layout;
-use libc::STDERR_FILENO;
 use words::status::of_output;
 
 // The points in the order of their indices, those that share one in file order.
@@ -25,36 +24,6 @@ fn sort(indices: &[u64], n: usize, points: &mut [u32], work: &mut [u32]) {
         return;
     }
     sort::in_order(&indices[..n], &mut points[..n], &mut work[..n]);
-}
-
-// How many of the sorted points share the index of the one before them.
-fn shared(indices: &[u64; 65536], points: &[u32; 65536], n: usize) -> u64 {
-    let mut count: u64 = 0;
-    for i in 0..65535usize {
-        if i + 1 < n {
-            if number_at(indices, points, i) == number_at(indices, points, i + 1) {
-                count = std::num::wrapping_add_u64(count, 1);
-            }
-        }
-    }
-    count
-}
-
-// Says how many knots share an index with one before them.
-fn say_shared(path: &[u8], count: u64, n: usize) {
-    if count == 0 {
-        return;
-    }
-    io::write_all(STDERR_FILENO, b"skarvolm: ");
-    io::write_all(STDERR_FILENO, path);
-    io::write_all(STDERR_FILENO, b": ");
-    io::print_decimal(STDERR_FILENO, count);
-    io::write_all(STDERR_FILENO, b" of ");
-    io::print_decimal(STDERR_FILENO, n as u64);
-    io::write_all(
-        STDERR_FILENO,
-        b" knots share an index with one before them\n",
-    );
 }
 
 // Puts a line of the text behind what stands before it.
@@ -141,8 +110,10 @@ pub fn print(
     ensures { λ _. ⊤ₛ }
 {
     let mut points = [0u32; 65536];
-    let mut work = [0u32; 65536];
-    sort(indices, n, &mut points, &mut work);
+    if asked::sorted(line) {
+        let mut work = [0u32; 65536];
+        sort(indices, n, &mut points, &mut work);
+    }
     let mut buffer = [0u8; 4096];
     let mut at: usize = 0;
     if !asked::plain(line) {
@@ -170,6 +141,6 @@ pub fn print(
         indices,
     );
     let written = printing::flush(&buffer, at);
-    say_shared(asked::path(line), shared(indices, &points, n), n);
+    shared::say(asked::path(line), indices, n);
     of_output(written)
 }

@@ -1,6 +1,6 @@
 // Places that are kept in 32 bits: of a point's line in the text, of a point in the order of the indices.
 
-fn wide(n: u32) -> usize {
+pub(crate) fn wide(n: u32) -> usize {
     n as usize
 }
 

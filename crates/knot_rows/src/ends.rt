@@ -16,26 +16,47 @@ pub fn value_of(values: &[f64; 196608], axis: usize, point: usize) -> f64
     }
 }
 
-// The first of n points that is lowest on an axis.
-fn lowest(values: &[f64; 196608], axis: usize, n: usize) -> usize {
-    let mut best: usize = 0;
-    for i in 0..n {
-        if value_of(values, axis, i) < value_of(values, axis, best) {
-            best = i;
-        }
-    }
-    best
+// Two places among some values.
+struct Pair {
+    low: usize,
+    high: usize,
 }
 
-// The first of n points that is highest on an axis.
-fn highest(values: &[f64; 196608], axis: usize, n: usize) -> usize {
-    let mut best: usize = 0;
-    for i in 0..n {
-        if value_of(values, axis, best) < value_of(values, axis, i) {
-            best = i;
+// The values of a coordinate, of n points.
+pub fn of_axis(values: &[f64], axis: usize, n: usize) -> &[f64]
+    ensures { λ _. ⊤ₛ }
+{
+    let start = axis % 3 * 65536;
+    if 65536 < n {
+        return &values[..0];
+    }
+    if values.len() < start + n {
+        return &values[..0];
+    }
+    &values[start..start + n]
+}
+
+// Above every coordinate in size.
+const BEYOND: f64 = 2097152.0;
+
+// The first lowest and the first highest of some coordinates.
+fn extremes(values: &[f64]) -> Pair {
+    let mut low: usize = 0;
+    let mut high: usize = 0;
+    let mut least = BEYOND;
+    let mut most = -BEYOND;
+    for i in 0..values.len() {
+        let value = values[i];
+        if value < least {
+            least = value;
+            low = i;
+        }
+        if most < value {
+            most = value;
+            high = i;
         }
     }
-    best
+    Pair { low, high }
 }
 
 // The points at the ends of each axis.
@@ -43,8 +64,9 @@ pub fn points_at(values: &[f64; 196608], n: usize, points: &mut [usize; 6])
     ensures { λ _. ⊤ₛ }
 {
     for axis in 0..3usize {
-        points[2 * axis] = lowest(values, axis, n);
-        points[2 * axis + 1] = highest(values, axis, n);
+        let at = extremes(of_axis(values, axis, n));
+        points[2 * axis] = at.low;
+        points[2 * axis + 1] = at.high;
     }
 }
 

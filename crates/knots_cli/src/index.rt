@@ -7,21 +7,10 @@ use knot_lists::asked;
 use knot_lists::lines;
 use knot_lists::notes;
 use knot_rows::ends;
+use knot_rows::ends::of_axis;
 use rules::Extent;
 use words::status::MISUSED;
 use words::word;
-
-// The values of a coordinate, of n points.
-fn of_axis(values: &[f64], axis: usize, n: usize) -> &[f64] {
-    let start = axis % 3 * 65536;
-    if 65536 < n {
-        return &values[..0];
-    }
-    if values.len() < start + n {
-        return &values[..0];
-    }
-    &values[start..start + n]
-}
 
 // Low and high of a coordinate.
 fn side(ends: &[f64; 6], axis: usize) -> Extent {

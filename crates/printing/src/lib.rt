@@ -3,9 +3,10 @@
 //
 // Where standard output takes no more, that is said on standard error once, and the place is `LOST` from then on: nothing is put there.
 // So who prints hands the place on, and asks at the end whether `flush` could write everything.
-use libc::STDERR_FILENO;
 use libc::STDOUT_FILENO;
-ghost use Prim.Native.Nat.{_≤_, _<_};
+use words::status::say_system;
+ghost use Prim.Native.Nat.{_+_, _≤_, _<_};
+ghost use lib.ListN.{length};
 
 // The place behind something that could not be written.
 pub const LOST: usize = 4097;
@@ -14,8 +15,7 @@ pub const LOST: usize = 4097;
 pub fn say_lost()
     ensures { λ _. ⊤ₛ }
 {
-    io::write_all(STDERR_FILENO, b"skarvolm: ");
-    os::fail(b"standard output");
+    say_system(b"standard output");
 }
 
 // Writes the first `at` bytes, and whether they could be written.
@@ -58,28 +58,67 @@ pub fn byte(out: &mut [u8; 4096], at: usize, b: u8) -> usize
     byte_anew(out, at, b)
 }
 
-pub fn bytes(out: &mut [u8; 4096], at: usize, what: &[u8]) -> usize
-    ensures { λ _. ⊤ₛ }
-{
+// Puts bytes one by one, and writes the buffer when it is full.
+fn bytes_anew(out: &mut [u8; 4096], at: usize, what: &[u8]) -> usize {
     let mut next = at;
-    let mut i: usize = 0;
-    while i < what.len() {
+    for i in 0..what.len() {
         next = byte(out, next, what[i]);
-        i += 1;
     }
     next
 }
 
-fn first(digits: &[u8; 20], k: usize, out: &mut [u8; 4096], at: usize) -> usize {
-    let mut next = at;
-    let mut i: usize = 0;
-    while i < k {
-        if i < 20 {
-            next = byte(out, next, digits[i]);
-        }
-        i += 1;
+// Puts bytes at the start of places that are as many or more.
+fn copy(out: &mut [u8], what: &[u8])
+    requires { ⌜ length (now what) ≤ length (now out) ⌝ }
+{
+    for i in 0..what.len() {
+        out[i] = what[i];
     }
-    next
+}
+
+// Puts bytes from a place on that has room for them.
+fn copy_to(out: &mut [u8], at: usize, what: &[u8])
+    requires { ⌜ at + length (now what) ≤ length (now out) ⌝ }
+{
+    copy(&mut out[at..], what);
+}
+
+pub fn bytes(out: &mut [u8; 4096], at: usize, what: &[u8]) -> usize
+    ensures { λ _. ⊤ₛ }
+{
+    if what.len() <= 4096 {
+        if at <= 4096 - what.len() {
+            copy_to(out, at, what);
+            return at + what.len();
+        }
+    }
+    bytes_anew(out, at, what)
+}
+
+// Puts the digits of a number at the end of 20 places; where they begin.
+fn spell(n: u64, digits: &mut [u8; 20]) -> usize {
+    let mut rest = n;
+    for i in 0..20usize {
+        digits[19 - i] = b'0' + (rest % 10) as u8;
+        rest /= 10;
+        if rest == 0 {
+            return 19 - i;
+        }
+    }
+    0
+}
+
+// What stands from a place on, nothing where that is past the end.
+fn from(digits: &[u8], first: usize) -> &[u8] {
+    if digits.len() < first {
+        return &digits[..0];
+    }
+    &digits[first..]
+}
+
+// Puts the digits from a place on.
+fn put_from(out: &mut [u8; 4096], at: usize, digits: &[u8; 20], first: usize) -> usize {
+    bytes(out, at, from(digits, first))
 }
 
 // The digits of a number.
@@ -87,8 +126,8 @@ pub fn number(out: &mut [u8; 4096], at: usize, n: u64) -> usize
     ensures { λ _. ⊤ₛ }
 {
     let mut digits = [0u8; 20];
-    let k = io::decimal(n, &mut digits);
-    first(&digits, k, out, at)
+    let first = spell(n, &mut digits);
+    put_from(out, at, &digits, first)
 }
 
 // Three digits of a number below 1,000, noughts in front.

@@ -30,6 +30,14 @@ pub fn of_output(written: bool) -> u8
     FAILED
 }
 
+// Says of a file, or of standard output, what the system says of the call that failed last.
+pub fn say_system(what: &[u8])
+    ensures { λ _. ⊤ₛ }
+{
+    io::write_all(libc::STDERR_FILENO, b"skarvolm: ");
+    os::fail(what);
+}
+
 // Says that a program was not started by the script, which knows the commands.
 pub fn misused() -> u8
     ensures { λ _. ⊤ₛ }
