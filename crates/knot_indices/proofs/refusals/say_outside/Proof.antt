@@ -1,8 +1,8 @@
 -- The loop counts up to its end, and every place that it touches is tested to be there.
 use Prim.Native.Nat.{_-_}
 use borrow.Author.Needs.{needs}
-use Rattle.knots_cli.proofs.refusals.say_outside.Statement.{statement}
-use Rattle.knots_cli.proofs.refusals.say_outside.Tie as tie
+use Rattle.knot_indices.proofs.refusals.say_outside.Statement.{statement}
+use Rattle.knot_indices.proofs.refusals.say_outside.Tie as tie
 
 abbrev Inv-loop : tie.InvT-loop
 Inv-loop line text separator columns n values starts ends kept₀ point₀ kept point = Unit {0}

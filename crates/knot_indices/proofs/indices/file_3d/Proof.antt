@@ -2,14 +2,16 @@
 use native.Mathlib.Omega.{arith}
 use lib.ListN.{length-take}
 use borrow.Author.Needs.{needs}
-use Rattle.knots_cli.proofs.index.file_2d.Statement.{statement}
-use Rattle.knots_cli.proofs.index.file_2d.Tie as tie
+use Rattle.knot_indices.proofs.indices.file_3d.Statement.{statement}
+use Rattle.knot_indices.proofs.indices.file_3d.Tie as tie
 
-pub file-2d-spec : {M : Type 1} → statement M
-file-2d-spec =
+pub file-3d-spec : {M : Type 1} → statement M
+file-3d-spec =
     tie.close
     (tie.spec
     (λ c. search needs)
+    (λ c κs. search needs)
+    (λ c κs. search needs)
     (λ c κs. search needs)
     (λ c κs. search needs)
     (λ c κs. search needs)
