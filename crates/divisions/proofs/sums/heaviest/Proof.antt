@@ -1,17 +1,17 @@
 -- The loop counts up to its end, and every place that it touches is tested to be there.
 use Prim.Native.Nat.{_-_}
 use borrow.Author.Needs.{needs}
-use Rattle.parts_cli.proofs.sums.weight_of_all.Statement.{statement}
-use Rattle.parts_cli.proofs.sums.weight_of_all.Tie as tie
+use Rattle.divisions.proofs.sums.heaviest.Statement.{statement}
+use Rattle.divisions.proofs.sums.heaviest.Tie as tie
 
 abbrev Inv-loop : tie.InvT-loop
-Inv-loop table sum₀ k₀ sum k = Unit {0}
+Inv-loop table best₀ k₀ best k = Unit {0}
 
 abbrev μ-loop : tie.MeasureT-loop
-μ-loop table sum₀ k₀ sum k = 1024 - k
+μ-loop table best₀ k₀ best k = 1024 - k
 
-pub weight-of-all-spec : {M : Type 1} → statement M
-weight-of-all-spec =
+pub heaviest-spec : {M : Type 1} → statement M
+heaviest-spec =
     tie.close
     (tie.spec
     Inv-loop

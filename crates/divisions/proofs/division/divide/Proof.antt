@@ -2,8 +2,8 @@
 use native.Mathlib.Omega.{arith}
 use lib.ListN.{length-take}
 use borrow.Author.Needs.{needs}
-use Rattle.parts_cli.proofs.division.divide.Statement.{statement}
-use Rattle.parts_cli.proofs.division.divide.Tie as tie
+use Rattle.divisions.proofs.division.divide.Statement.{statement}
+use Rattle.divisions.proofs.division.divide.Tie as tie
 
 pub divide-spec : {M : Type 1} → statement M
 divide-spec =

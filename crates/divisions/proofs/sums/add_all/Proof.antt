@@ -1,8 +1,8 @@
 -- The loop counts up to its end, and every place that it touches is tested to be there.
 use Prim.Native.Nat.{_-_}
 use borrow.Author.Needs.{needs}
-use Rattle.parts_cli.proofs.sums.add_all.Statement.{statement}
-use Rattle.parts_cli.proofs.sums.add_all.Tie as tie
+use Rattle.divisions.proofs.sums.add_all.Statement.{statement}
+use Rattle.divisions.proofs.sums.add_all.Tie as tie
 
 abbrev Inv-loop : tie.InvT-loop
 Inv-loop table₀ n indices weights parts order i₀ table i = Unit {0}
@@ -17,6 +17,7 @@ add-all-spec =
     Inv-loop
     μ-loop
     (λ c. search needs)
+    (λ c κs. search needs)
     (λ c κs. search needs)
     (λ c κs. search needs)
     (λ c κs. search needs)

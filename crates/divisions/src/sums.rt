@@ -3,6 +3,7 @@
 // There are at most 65,536 weights of at most 16,777,215, so that no sum of them reaches 2^40, and at most 1,024 parts, so that no part
 // count times such a sum passes 2^50: what is added and multiplied here is exact.
 use knot_lists::places::number_at;
+use knot_lists::places::place_of;
 
 const POINTS: usize = 0;
 
@@ -17,25 +18,33 @@ fn of_part(table: &[u64; 4096], k: usize, which: usize) -> u64 {
     table[(k % 1024 * 4 + which % 4) % 4096]
 }
 
-pub(crate) fn points(table: &[u64; 4096], k: usize) -> u64 {
+pub fn points(table: &[u64; 4096], k: usize) -> u64
+    ensures { λ _. ⊤ₛ }
+{
     of_part(table, k, POINTS)
 }
 
-pub(crate) fn weight(table: &[u64; 4096], k: usize) -> u64 {
+pub fn weight(table: &[u64; 4096], k: usize) -> u64
+    ensures { λ _. ⊤ₛ }
+{
     of_part(table, k, WEIGHT)
 }
 
-pub(crate) fn first(table: &[u64; 4096], k: usize) -> u64 {
+pub fn first(table: &[u64; 4096], k: usize) -> u64
+    ensures { λ _. ⊤ₛ }
+{
     of_part(table, k, FIRST)
 }
 
-pub(crate) fn last(table: &[u64; 4096], k: usize) -> u64 {
+pub fn last(table: &[u64; 4096], k: usize) -> u64
+    ensures { λ _. ⊤ₛ }
+{
     of_part(table, k, LAST)
 }
 
 // Adds a point to its part. Points come in the order of their indices.
-fn add(table: &mut [u64; 4096], part: u64, index: u64, weight: u64) {
-    let at = (part % 1024) as usize * 4;
+fn add(table: &mut [u64; 4096], part: usize, index: u64, weight: u64) {
+    let at = part % 1024 * 4;
     if table[at] == 0 {
         table[at + FIRST] = index;
     }
@@ -45,19 +54,21 @@ fn add(table: &mut [u64; 4096], part: u64, index: u64, weight: u64) {
 }
 
 // Adds n points to their parts, along the curve.
-pub(crate) fn add_all(
+pub fn add_all(
     table: &mut [u64; 4096],
     n: usize,
     indices: &[u64; 65536],
     weights: &[u64; 65536],
-    parts: &[u64; 65536],
+    parts: &[u32; 65536],
     order: &[u32; 65536],
-) {
+)
+    ensures { λ _. ⊤ₛ }
+{
     for i in 0..65536usize {
         if i < n {
             add(
                 table,
-                number_at(parts, order, i),
+                place_of(parts, place_of(order, i)),
                 number_at(indices, order, i),
                 number_at(weights, order, i),
             );
@@ -66,7 +77,9 @@ pub(crate) fn add_all(
 }
 
 // The weight of all parts.
-pub(crate) fn weight_of_all(table: &[u64; 4096]) -> u64 {
+pub fn weight_of_all(table: &[u64; 4096]) -> u64
+    ensures { λ _. ⊤ₛ }
+{
     let mut sum: u64 = 0;
     for k in 0..1024usize {
         sum = std::num::wrapping_add_u64(sum, weight(table, k));
@@ -75,7 +88,9 @@ pub(crate) fn weight_of_all(table: &[u64; 4096]) -> u64 {
 }
 
 // The first of the heaviest parts.
-pub(crate) fn heaviest(table: &[u64; 4096]) -> usize {
+pub fn heaviest(table: &[u64; 4096]) -> usize
+    ensures { λ _. ⊤ₛ }
+{
     let mut best: usize = 0;
     for k in 0..1024usize {
         if weight(table, best) < weight(table, k) {
@@ -104,12 +119,14 @@ fn weight_to(
 }
 
 // The heaviest weight on one index.
-pub(crate) fn heaviest_on_one(
+pub fn heaviest_on_one(
     n: usize,
     indices: &[u64; 65536],
     weights: &[u64; 65536],
     order: &[u32; 65536],
-) -> u64 {
+) -> u64
+    ensures { λ _. ⊤ₛ }
+{
     let mut most: u64 = 0;
     let mut here: u64 = 0;
     for i in 0..65536usize {
@@ -124,7 +141,9 @@ pub(crate) fn heaviest_on_one(
 }
 
 // A part count times a weight; 0 of more than there can be.
-pub(crate) fn times(count: u32, weight: u64) -> u64 {
+pub fn times(count: u32, weight: u64) -> u64
+    ensures { λ _. ⊤ₛ }
+{
     if requests::TOP_PARTS < count {
         return 0;
     }

@@ -1,8 +1,8 @@
 -- The loop counts up to its end, and every place that it touches is tested to be there.
 use Prim.Native.Nat.{_-_}
 use borrow.Author.Needs.{needs}
-use Rattle.parts_cli.proofs.sums.heaviest_on_one.Statement.{statement}
-use Rattle.parts_cli.proofs.sums.heaviest_on_one.Tie as tie
+use Rattle.divisions.proofs.sums.heaviest_on_one.Statement.{statement}
+use Rattle.divisions.proofs.sums.heaviest_on_one.Tie as tie
 
 abbrev Inv-loop : tie.InvT-loop
 Inv-loop n indices weights order most₀ here₀ i₀ most here i = Unit {0}

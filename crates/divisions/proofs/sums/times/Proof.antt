@@ -2,8 +2,8 @@
 use native.Mathlib.Omega.{arith}
 use native.Mathlib.Nat.{mul-le-mul}
 use borrow.Author.Needs.{needs}
-use Rattle.parts_cli.proofs.sums.times.Statement.{statement}
-use Rattle.parts_cli.proofs.sums.times.Tie as tie
+use Rattle.divisions.proofs.sums.times.Statement.{statement}
+use Rattle.divisions.proofs.sums.times.Tie as tie
 
 pub times-spec : {M : Type 1} → statement M
 times-spec =
