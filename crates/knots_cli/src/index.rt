@@ -1,101 +1,16 @@
-// The indices of knots in the box around them, or in one that is given.
-use crate::refusals;
-use console::faults;
+// What is printed of the knots of a text: their box, or their indices.
 use knot_columns::columns::Columns;
 use knot_files::layout::Layout;
+use knot_indices::indices;
+use knot_indices::table;
+use knot_indices::table::Table;
 use knot_lists::asked;
 use knot_lists::lines;
 use knot_lists::notes;
-use knot_rows::ends;
-use knot_rows::ends::of_axis;
-use rules::Extent;
-use words::status::MISUSED;
-use words::word;
+use words::status::DONE;
+use words::status::FAILED;
 
-// Low and high of a coordinate.
-fn side(ends: &[f64; 6], axis: usize) -> Extent {
-    let i = axis % 3 * 2;
-    Extent {
-        low: ends[i],
-        high: ends[i + 1],
-    }
-}
-
-// The indices of n points in 2D, or the number of refusal.
-fn file_2d(values: &[f64], n: usize, ends: &[f64; 6], order: u32, indices: &mut [u64]) -> u32 {
-    if indices.len() < n {
-        return rules::REFUSED_LENGTHS;
-    }
-    given_2d::index_2d_in(
-        of_axis(values, 0, n),
-        of_axis(values, 1, n),
-        side(ends, 0),
-        side(ends, 1),
-        order,
-        &mut indices[..n],
-    )
-}
-
-// The indices of n points in 3D, or the number of refusal.
-fn file_3d(values: &[f64], n: usize, ends: &[f64; 6], order: u32, indices: &mut [u64]) -> u32 {
-    if indices.len() < n {
-        return rules::REFUSED_LENGTHS;
-    }
-    given_3d::index_3d_in(
-        of_axis(values, 0, n),
-        of_axis(values, 1, n),
-        of_axis(values, 2, n),
-        side(ends, 0),
-        side(ends, 1),
-        side(ends, 2),
-        order,
-        &mut indices[..n],
-    )
-}
-
-// The indices of n points with so many coordinates, or the number of refusal.
-fn file(
-    count: usize,
-    values: &[f64; 196608],
-    n: usize,
-    ends: &[f64; 6],
-    order: u32,
-    indices: &mut [u64; 65536],
-) -> u32 {
-    if count == 2 {
-        return file_2d(values, n, ends, order, indices);
-    }
-    file_3d(values, n, ends, order, indices)
-}
-
-// The ends of the box: those that are given, or those of the points. Whether the given ones are decimals, as many as there should be.
-fn fill_ends(
-    line: &[u8],
-    count: usize,
-    values: &[f64; 196608],
-    n: usize,
-    ends: &mut [f64; 6],
-) -> bool {
-    let given = asked::ends(line);
-    if given == 0 {
-        let mut points = [0usize; 6];
-        ends::points_at(values, n, &mut points);
-        ends::of_points(values, &points, ends);
-        return true;
-    }
-    if given / 2 != count {
-        faults::of(b"box", b"wanted a low and a high for each coordinate");
-        return false;
-    }
-    let i = ends::of_words(line, asked::BOX, given, ends);
-    if i < 6 {
-        faults::of(word(line, asked::BOX + i), b"wanted a decimal in the box");
-        return false;
-    }
-    true
-}
-
-// Indexes the points and prints them, or says why they are refused.
+// Indexes n points and prints them, or says why they are refused.
 fn index(
     line: &[u8],
     text: &[u8],
@@ -104,35 +19,28 @@ fn index(
     n: usize,
     values: &[f64; 196608],
     starts: &[u32; 65536],
-    ends: &[f64; 6],
 ) -> u8 {
+    let mut ends = [0.0f64; 6];
     let mut indices = [0u64; 65536];
-    let number = file(
-        columns.count,
-        values,
+    let status = indices::of_points(
+        line,
+        text,
+        layout.separator,
+        columns,
         n,
-        ends,
-        asked::order(line),
+        values,
+        starts,
+        &mut ends,
         &mut indices,
     );
-    if number != rules::ANSWERED {
-        return refusals::say(
-            line,
-            text,
-            layout.separator,
-            columns,
-            n,
-            values,
-            starts,
-            ends,
-            number,
-        );
+    if status != DONE {
+        return status;
     }
     lines::print(line, text, layout, columns, n, values, starts, &indices)
 }
 
 // What is wanted of n points: their box alone, or their indices.
-pub(crate) fn of_points(
+fn of_points(
     line: &[u8],
     text: &[u8],
     layout: Layout,
@@ -144,9 +52,25 @@ pub(crate) fn of_points(
     if asked::extent(line) {
         return notes::print(line, text, layout.separator, columns, n, values, starts);
     }
-    let mut ends = [0.0f64; 6];
-    if !fill_ends(line, columns.count, values, n, &mut ends) {
-        return MISUSED;
+    index(line, text, layout, columns, n, values, starts)
+}
+
+// Reads the knots and goes on with them, or says what is wrong.
+fn of_table(line: &[u8], text: &[u8], layout: Layout, columns: Columns) -> u8 {
+    let mut values = [0.0f64; 196608];
+    let mut starts = [0u32; 65536];
+    let n = table::read(line, text, layout, columns, &mut values, &mut starts);
+    if n == 0 {
+        return FAILED;
     }
-    index(line, text, layout, columns, n, values, starts, &ends)
+    of_points(line, text, layout, columns, n, &values, &starts)
+}
+
+// The knots of a text.
+pub(crate) fn of_text(line: &[u8], text: &[u8]) -> u8 {
+    let table = table::table_of(line, text);
+    let Table::Of(layout, columns) = table else {
+        return FAILED;
+    };
+    of_table(line, text, layout, columns)
 }

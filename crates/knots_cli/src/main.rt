@@ -4,8 +4,6 @@
 // and what is wrong with it is said, with file, line and column, before anything is printed. What is right goes out through a buffer.
 // A buffer for a file is made here once, and lent as an array.
 mod index;
-mod refusals;
-mod table;
 
 use console::files;
 use console::files::Size;
@@ -18,7 +16,7 @@ fn carry_out(line: &[u8], bytes: &mut [u8; 4194304]) -> u8 {
     let Size::Bytes(size) = read else {
         return FAILED;
     };
-    table::of_text(line, files::text(bytes, size))
+    index::of_text(line, files::text(bytes, size))
 }
 
 fn carry_out_in(line: &[u8; 4096], bytes: &mut [u8; 4194304]) {

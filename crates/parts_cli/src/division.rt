@@ -1,7 +1,7 @@
 // The parts of points, and their lines.
 use crate::asked;
 use crate::summary;
-use console::faults::refused;
+use divisions::division;
 use knot_files::layout::Layout;
 use knot_lists::lines::put_header;
 use knot_lists::lines::put_points;
@@ -9,36 +9,6 @@ use knot_lists::places::place_of;
 use whole_files::noted;
 use words::status::FAILED;
 use words::status::of_output;
-
-// The parts of n points and the points in order, or the number of refusal.
-fn divide(
-    count: u32,
-    n: usize,
-    indices: &[u64],
-    weights: &[u64],
-    parts: &mut [u32],
-    order: &mut [u32],
-) -> u32 {
-    if indices.len() < n {
-        return rules::REFUSED_LENGTHS;
-    }
-    if weights.len() < n {
-        return rules::REFUSED_LENGTHS;
-    }
-    if parts.len() < n {
-        return rules::REFUSED_LENGTHS;
-    }
-    if order.len() < n {
-        return rules::REFUSED_LENGTHS;
-    }
-    parts::parts_along(
-        count,
-        &indices[..n],
-        &weights[..n],
-        &mut parts[..n],
-        &mut order[..n],
-    )
-}
 
 // The parts as numbers that can be put before lines.
 fn widen(parts: &[u32; 65536], numbers: &mut [u64; 65536]) {
@@ -100,11 +70,11 @@ fn show(
     parts: &[u32; 65536],
     order: &[u32; 65536],
 ) -> u8 {
+    if asked::summary(line) {
+        return summary::print(asked::count(line), n, indices, weights, parts, order);
+    }
     let mut numbers = [0u64; 65536];
     widen(parts, &mut numbers);
-    if asked::summary(line) {
-        return summary::print(asked::count(line), n, indices, weights, &numbers, order);
-    }
     print(line, text, layout, known, n, starts, &numbers, order)
 }
 
@@ -121,16 +91,15 @@ pub(crate) fn of_points(
 ) -> u8 {
     let mut parts = [0u32; 65536];
     let mut order = [0u32; 65536];
-    let number = divide(
+    if !division::of_points(
+        asked::path(line),
         asked::count(line),
         n,
         indices,
         weights,
         &mut parts,
         &mut order,
-    );
-    if number != rules::ANSWERED {
-        refused(asked::path(line), number);
+    ) {
         return FAILED;
     }
     show(

@@ -8,7 +8,6 @@ mod division;
 mod list;
 mod points;
 mod summary;
-mod sums;
 
 use console::files;
 use console::files::Size;

@@ -1,10 +1,8 @@
 // Points out of the lines of a list: the index and the weight of each, and where its line starts.
-use console::faults::MISSING;
 use console::faults::NOTHING;
 use console::faults::full;
 use console::faults::note;
-use console::lines::field_of;
-use knot_columns::columns::NO_COLUMN;
+use divisions::weights::read_weight;
 use whole_files::row;
 use whole_files::row::Limit;
 use whole_files::row::Row;
@@ -15,43 +13,6 @@ fn any_index() -> Limit {
         most: 18446744073709551615,
         refusal: rules::REFUSED_INDEX,
     }
-}
-
-fn light_weight() -> Limit {
-    Limit {
-        most: rules::TOP_WEIGHT,
-        refusal: rules::REFUSED_WEIGHT,
-    }
-}
-
-// Reads the weight of a point out of a column of its line, which has so many fields. Where no column is named its weight stays.
-fn read_weight(
-    text: &[u8],
-    at: usize,
-    separator: u8,
-    column: usize,
-    fields: usize,
-    point: usize,
-    weights: &mut [u64; 65536],
-    faults: &mut [usize; 61],
-) {
-    if column == NO_COLUMN {
-        return;
-    }
-    if fields <= column {
-        note(faults, MISSING, at, column % NO_COLUMN + 1);
-        return;
-    }
-    let field = field_of(text, at, separator, column);
-    row::read_field(
-        text,
-        field.start,
-        field.end,
-        light_weight(),
-        weights,
-        point,
-        faults,
-    );
 }
 
 // Reads the line at `at` as a point, where it has a field.

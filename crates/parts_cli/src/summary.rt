@@ -1,6 +1,6 @@
 // What each part holds, and how near the heaviest one is to the bound that is proved: n times its weight is at most T, the weight of
 // all, and n times c, the heaviest weight on one index.
-use crate::sums;
+use divisions::sums;
 use words::status::of_output;
 
 // Puts a comma and a number.
@@ -80,7 +80,7 @@ pub(crate) fn print(
     n: usize,
     indices: &[u64; 65536],
     weights: &[u64; 65536],
-    parts: &[u64; 65536],
+    parts: &[u32; 65536],
     order: &[u32; 65536],
 ) -> u8 {
     let mut table = [0u64; 4096];

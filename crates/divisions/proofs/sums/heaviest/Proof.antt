@@ -1,0 +1,25 @@
+-- The loop counts up to its end, and every place that it touches is tested to be there.
+use Prim.Native.Nat.{_-_}
+use borrow.Author.Needs.{needs}
+use Rattle.divisions.proofs.sums.heaviest.Statement.{statement}
+use Rattle.divisions.proofs.sums.heaviest.Tie as tie
+
+abbrev Inv-loop : tie.InvT-loop
+Inv-loop table best₀ k₀ best k = Unit {0}
+
+abbrev μ-loop : tie.MeasureT-loop
+μ-loop table best₀ k₀ best k = 1024 - k
+
+pub heaviest-spec : {M : Type 1} → statement M
+heaviest-spec =
+    tie.close
+    (tie.spec
+    Inv-loop
+    μ-loop
+    (λ c. search needs)
+    (λ c κs. search needs)
+    (λ c κs. search needs)
+    (λ c. search needs)
+    (λ c. search needs)
+    (λ c. search needs)
+    (λ c. search needs))
