@@ -8,6 +8,7 @@ use console::lines::first_line;
 use console::lines::line_end;
 use knot_columns::columns::Columns;
 use knot_columns::columns::NO_COLUMN;
+use knot_columns::columns::axis_of;
 use knot_columns::columns::column_of;
 use knot_columns::columns::first;
 use knot_columns::columns::place_of;
@@ -61,6 +62,20 @@ pub fn unknown(columns: Columns) -> usize
     for axis in 0..3usize {
         if axis < columns.count {
             if column_of(columns, axis) == NO_COLUMN {
+                return axis;
+            }
+        }
+    }
+    3
+}
+
+// The first coordinate whose column is that of one before it, 3 where there is none such.
+pub fn repeated(columns: Columns) -> usize
+    ensures { λ _. ⊤ₛ }
+{
+    for axis in 0..3usize {
+        if axis < columns.count {
+            if axis_of(columns, column_of(columns, axis)) != axis {
                 return axis;
             }
         }

@@ -1,4 +1,5 @@
 // The knots of a text.
+use console::faults;
 use console::faults::say_all;
 use console::lines::first_line;
 use fields::separator_of;
@@ -9,18 +10,25 @@ use knot_files::layout::Layout;
 use knot_files::layout::check;
 use knot_files::layout::counted;
 use knot_files::layout::layout_of;
+use knot_files::layout::repeated;
 use knot_files::layout::unknown;
 use knot_lists::asked;
 use knot_rows::rows;
 use words::word;
 
-// How a text is laid out and where the coordinates stand, or that a word of the command names no column of it.
+// How a text is laid out and where the coordinates stand, or that a word of the command names no column of it, or one that another
+// names.
 pub enum Table {
     Of(Layout, Columns),
     Unknown,
 }
 
-// How a text of knots is laid out; a word that names no column is said.
+// A word that chooses the column of a coordinate.
+fn choice(line: &[u8], axis: usize) -> &[u8] {
+    word(line, std::num::wrapping_add_usize(asked::COLUMNS, axis))
+}
+
+// How a text of knots is laid out; a word that names no column, or one that another names, is said.
 pub fn table_of(line: &[u8], text: &[u8]) -> Table
     ensures { λ _. ⊤ₛ }
 {
@@ -29,7 +37,12 @@ pub fn table_of(line: &[u8], text: &[u8]) -> Table
     let chosen = layout::chosen(line, asked::COLUMNS, text, head, separator);
     let axis = unknown(chosen);
     if axis < 3 {
-        say_unknown(word(line, std::num::wrapping_add_usize(asked::COLUMNS, axis)));
+        say_unknown(choice(line, axis));
+        return Table::Unknown;
+    }
+    let again = repeated(chosen);
+    if again < 3 {
+        faults::of(choice(line, again), b"another coordinate has this column");
         return Table::Unknown;
     }
     let layout = layout_of(text, head, separator, chosen);
