@@ -259,12 +259,12 @@ fn ended(text: &[u8], met: Met, separator: u8) -> Field
     }
 }
 
-// What stands next, a byte after the other.
-fn met_from(text: &[u8], at: usize, separator: u8) -> Field
-    ensures { λ r. ⌜ r ≡ fieldAt separator (now (text .entry)) at ⌝ }
+// What stands next in the text from `from` on, a byte after the other.
+fn met_from(text: &[u8], from: usize, separator: u8) -> Field
+    ensures { λ r. ⌜ r ≡ fieldAt separator (now (text .entry)) from ⌝ }
 {
     let mut met = Met::Open;
-    let mut i = at;
+    let mut i = from;
     while i < text.len() {
         met = step(met, text[i], i, i + 1, separator);
         if is_met(met) {
