@@ -1,8 +1,9 @@
 -- The fields of a text's lines: what stands where a field may begin, step by step. A step takes a byte, its place and that behind it. Assumes nothing.
-use Prim.Native.Nat.{ℕ, _+_}
+use Prim.Native.Nat.{ℕ, _+_, _≤_, _<_}
+use mathlib.Core.Path.{_≡_}
 use mathlib.Core.Bool.{Bool, true, false, not, _&&_, _||_, cond}
 use mathlib.Core.List.{List}
-use lib.ListN.{length}
+use lib.ListN.{getD, length}
 use lib.Dec.{eqb, ltb}
 use Rattle.separators.specs.Bytes.{isLineEnd, isHash, isQuote, isTab, isSpace}
 use Rattle.separators.specs.Machines.{atEnd}
@@ -44,6 +45,13 @@ bareEnd n start (Ended end next) = field.Word start end next
 
 unfoldable pub bareAt : ℕ → List ℕ → ℕ → Field
 bareAt separator t start = bareEnd (length t) start (atEnd (bareStep separator) (Going start) t start)
+
+-- the bytes from a place to before another are plain: a field that begins at the one goes on at the other
+abbrev pub PlainTo : ℕ → List ℕ → ℕ → ℕ → Type 0
+PlainTo separator t from to =
+    (from ≤ to)
+    × (from < to → isPlain separator (getD t from 0) ≡ true)
+    × (atEnd (bareStep separator) (Going to) t to ≡ atEnd (bareStep separator) (Going from) t from)
 
 -- one byte more where a field may begin; a separator here has an empty field before it
 abbrev pub openByte : ℕ → ℕ → ℕ → ℕ → Met

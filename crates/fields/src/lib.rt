@@ -10,7 +10,7 @@
 // the text and goes on from where it was looked for (`field-goes-on`).
 pub use separators::separator_of;
 ghost use mathlib.Core.Path.{_≡_};
-ghost use Rattle.fields.specs.Fields.{isBlank, parts, isPlain, bareByte, bareAt, openByte, quotedByte, closedByte, behindByte, commentByte, fieldByte, isMet, fieldEnd, fieldAt};
+ghost use Rattle.fields.specs.Fields.{isBlank, parts, isPlain, bareByte, bareAt, PlainTo, openByte, quotedByte, closedByte, behindByte, commentByte, fieldByte, isMet, fieldEnd, fieldAt};
 
 // What stands next in a text: a field from its first byte to before another (it may be empty) with the place where the next may
 // begin, a comment or a line's end with the place after it, or the text's end.
@@ -275,17 +275,39 @@ fn met_from(text: &[u8], from: usize, separator: u8) -> Field
     ended(text, met, separator)
 }
 
-// What stands next in the text from `at` on, where a field may begin.
+// Where the bytes from `from` on end that belong to a field wherever they stand.
+fn plain_to(text: &[u8], from: usize, separator: u8) -> usize
+    ensures { λ r. ⌜ PlainTo separator (now (text .entry)) from r ⌝ }
+{
+    let mut i = from;
+    while i < text.len() {
+        if !is_plain(text[i], separator) {
+            return i;
+        }
+        i += 1;
+    }
+    i
+}
+
+// What stands next in the text from `at` on, where a field may begin. What most fields and lines are is tried first: bytes that belong
+// to a field wherever they stand, up to a separator or a line's end.
 pub fn field_at(text: &[u8], at: usize, separator: u8) -> Field
     ensures { λ r. ⌜ r ≡ fieldAt separator (now (text .entry)) at ⌝ }
 {
-    if at < text.len() {
-        let b = text[at];
-        if is_plain(b, separator) {
-            return bare_from(text, at, separator);
+    let end = plain_to(text, at, separator);
+    if text.len() <= end {
+        return met_from(text, at, separator);
+    }
+    let b = text[end];
+    if b == b'\n' {
+        if at < end {
+            return Field::Word(at, end, end);
         }
-        if b == b'\n' {
-            return Field::LineEnd(at + 1);
+        return Field::LineEnd(end + 1);
+    }
+    if at < end {
+        if b == separator {
+            return Field::Word(at, end, end + 1);
         }
     }
     met_from(text, at, separator)
