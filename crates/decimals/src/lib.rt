@@ -34,12 +34,6 @@ pub struct Part {
     next: usize,
 }
 
-// What has been met before a place of a word.
-pub struct Begun {
-    met: Met,
-    next: usize,
-}
-
 // digits * 10^up / 10^down, in a word that ends at `at`.
 fn value(negative: bool, digits: u64, up: u64, down: u64, at: usize) -> Decimal
     ensures { λ r. ⌜ r ≡ valueOf negative digits up down at ⌝ }
@@ -155,37 +149,6 @@ fn decimal_part(word: &[u8], from: usize, whole: u64) -> Part
     Part { digits, next }
 }
 
-// What has been met of a word's digits, with a point or none, and the place behind them.
-fn begin(word: &[u8]) -> Begun
-    ensures { λ r. ⌜ MetBefore (now (word .entry)) (r .met) (r .next) ⌝ }
-{
-    let whole = whole_part(word);
-    let next = whole.next;
-    if next == 0 {
-        return Begun {
-            met: Met::Start,
-            next,
-        };
-    }
-    if next == word.len() {
-        return Begun {
-            met: Met::Whole(false, whole.digits),
-            next,
-        };
-    }
-    if word[next] != b'.' {
-        return Begun {
-            met: Met::Whole(false, whole.digits),
-            next,
-        };
-    }
-    let all = decimal_part(word, next + 1, whole.digits);
-    Begun {
-        met: Met::Decimals(false, all.digits, (all.next - (next + 1)) as u32),
-        next: all.next,
-    }
-}
-
 // The word's value, or where it is wrong, from what has been met before a place.
 fn ended(word: &[u8], first: Met, from: usize) -> Decimal
     requires { ⌜ MetBefore (now word) first from ⌝ }
@@ -200,11 +163,26 @@ fn ended(word: &[u8], first: Met, from: usize) -> Decimal
     end(met, i)
 }
 
-// The word's value, or where it is wrong.
+// The word's value, or where it is wrong. What most words are is tried first: digits, or digits, a point and digits, and no more.
 pub fn decimal_of(word: &[u8]) -> Decimal
     ensures { λ r. ⌜ r ≡ decimalOf (now (word .entry)) ⌝ }
 {
-    let start = begin(word);
-    let met = start.met;
-    ended(word, met, start.next)
+    let whole = whole_part(word);
+    let next = whole.next;
+    if next == 0 {
+        return ended(word, Met::Start, 0);
+    }
+    if next == word.len() {
+        return Decimal::Value(times_tens(false, whole.digits, 0));
+    }
+    if word[next] != b'.' {
+        return ended(word, Met::Whole(false, whole.digits), next);
+    }
+    let all = decimal_part(word, next + 1, whole.digits);
+    let places = (all.next - (next + 1)) as u32;
+    let last = all.next;
+    if last == word.len() {
+        return Decimal::Value(over_tens(false, all.digits, places));
+    }
+    ended(word, Met::Decimals(false, all.digits, places), last)
 }
