@@ -7,6 +7,13 @@ use crate::lines::fields_on;
 use crate::lines::part;
 use crate::meanings::meaning;
 use libc::STDERR_FILENO;
+pub use messages::begin;
+use messages::found;
+pub use messages::of;
+use messages::place;
+pub use messages::quote;
+pub use messages::write;
+pub use messages::write_number;
 use words::word;
 
 // How many faults are kept and said.
@@ -30,13 +37,15 @@ pub const NOTHING: usize = 8;
 
 pub const EMPTY: usize = 9;
 
-// Of a line as a whole, which starts at the first place. The second is that of the line that it is held against (`RAGGED`), or the
-// number of a column that it has not (`MISSING`).
+// Of a line as a whole, which starts at the first place. The second is that of the line that it is held against (`RAGGED`), the number of
+// a column that it has not (`MISSING`), or how many numbers an event has by its coordinates (`EVENT`).
 pub const COLUMNS: usize = 10;
 
 pub const RAGGED: usize = 11;
 
 pub const MISSING: usize = 12;
+
+pub const EVENT: usize = 13;
 
 // A number of refusal is this more.
 pub const REFUSED: usize = 100;
@@ -62,60 +71,6 @@ pub fn full(faults: &[usize; 61]) -> bool
     ensures { λ _. ⊤ₛ }
 {
     MOST < faults[0]
-}
-
-// Writes what a text of this program says.
-pub fn write(what: &[u8])
-    ensures { λ _. ⊤ₛ }
-{
-    io::write_all(STDERR_FILENO, what);
-}
-
-pub fn write_number(n: usize)
-    ensures { λ _. ⊤ₛ }
-{
-    io::print_decimal(STDERR_FILENO, n as u64);
-}
-
-// Writes a byte of a file so that it can be seen.
-fn write_byte(b: u8) {
-    if b < 32 {
-        write(b"\\x");
-        io::print_hex(STDERR_FILENO, b as u64, 2);
-        return;
-    }
-    if 126 < b {
-        write(b"\\x");
-        io::print_hex(STDERR_FILENO, b as u64, 2);
-        return;
-    }
-    write(&[b]);
-}
-
-// Writes at most 40 bytes of a file in quotes.
-pub fn quote(what: &[u8])
-    ensures { λ _. ⊤ₛ }
-{
-    write(b"'");
-    for i in 0..what.len() {
-        if i < 40 {
-            write_byte(what[i]);
-        }
-    }
-    if 40 < what.len() {
-        write(b"..");
-    }
-    write(b"'");
-}
-
-// Writes what was found.
-fn found(what: &[u8]) {
-    write(b"found ");
-    if what.len() == 0 {
-        write(b"nothing");
-        return;
-    }
-    quote(what);
 }
 
 // A number of refusal and what it means.
@@ -156,24 +111,6 @@ a number
     );
 }
 
-// Begins a message about a file.
-pub fn begin(path: &[u8])
-    ensures { λ _. ⊤ₛ }
-{
-    write(b"skarvolm: ");
-    write(path);
-    write(b":");
-}
-
-// The line and column of a byte, behind the file.
-fn place(text: &[u8], at: usize) {
-    let here = text::place_at(text, at);
-    write_number(here.line);
-    write(b":");
-    write_number(here.column);
-    write(b": ");
-}
-
 // How many fields a line has.
 fn count_of(text: &[u8], at: usize, separator: u8) {
     let here = text::place_at(text, at);
@@ -191,6 +128,11 @@ fn of_line(text: &[u8], separator: u8, what: usize, start: usize, end: usize) {
         RAGGED => {
             write(b" numbers, ");
             count_of(text, end, separator);
+        }
+        EVENT => {
+            write(b" numbers, wanted 2 (cell and amount) or ");
+            write_number(end);
+            write(b" (coordinates and amount)");
         }
         _ => {
             write(b" fields, wanted a number in column ");
@@ -211,7 +153,7 @@ fn say(path: &[u8], text: &[u8], separator: u8, what: usize, start: usize, end: 
     begin(path);
     place(text, start);
     match what {
-        COLUMNS | RAGGED | MISSING => of_line(text, separator, what, start, end),
+        COLUMNS | RAGGED | MISSING | EVENT => of_line(text, separator, what, start, end),
         _ => of_field(text, what, start, end),
     }
     write(b"\n");
@@ -237,16 +179,6 @@ pub fn say_all(path: &[u8], text: &[u8], separator: u8, faults: &[usize; 61])
     if MOST < n {
         of(path, b"more is wrong behind these");
     }
-}
-
-// Says what is wrong with a file as a whole, or with a word of the command.
-pub fn of(path: &[u8], what: &[u8])
-    ensures { λ _. ⊤ₛ }
-{
-    begin(path);
-    write(b" ");
-    write(what);
-    write(b"\n");
 }
 
 // Ends a message with a number of refusal.

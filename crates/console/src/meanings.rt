@@ -38,6 +38,12 @@ a weight over 16,777,215
 a part count of 0 or over 1,024, or over 65,536 points
 the edition is neither 1 nor 2
 the first axis is not one of the grid's
+
+
+
+
+
+an event's cell is not in the grid
 ",
     )
 }

@@ -2,8 +2,8 @@
 //
 // There are at most 65,536 weights of at most 16,777,215, so that no sum of them reaches 2^40, and at most 1,024 parts, so that no part
 // count times such a sum passes 2^50: what is added and multiplied here is exact.
-use knot_lists::places::number_at;
-use knot_lists::places::place_of;
+use numbered_lines::places::number_at;
+use numbered_lines::places::place_of;
 
 const POINTS: usize = 0;
 

@@ -3,6 +3,8 @@ use crate::header::is_header;
 use console::faults::COLUMNS;
 use console::faults::NOTHING;
 use console::faults::note;
+use console::lines::Span;
+use console::lines::field_of;
 use console::lines::fields_on;
 use console::lines::first_line;
 use console::lines::line_end;
@@ -135,4 +137,27 @@ pub fn check(columns: Columns, text: &[u8], first: usize, faults: &mut [usize; 6
         2 | 3 => {}
         _ => note(faults, COLUMNS, first, first),
     }
+}
+
+fn wide(n: u32) -> usize {
+    n as usize
+}
+
+// The field of a coordinate of a point, whose line starts at its place among `starts`.
+pub fn field(
+    text: &[u8],
+    separator: u8,
+    columns: Columns,
+    starts: &[u32; 65536],
+    axis: usize,
+    point: usize,
+) -> Span
+    ensures { λ _. ⊤ₛ }
+{
+    field_of(
+        text,
+        wide(starts[point % 65536]),
+        separator,
+        column_of(columns, axis),
+    )
 }

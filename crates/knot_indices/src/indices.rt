@@ -1,8 +1,7 @@
 // The indices of knots in the box around them, or in one that is given.
-use crate::refusals;
 use console::faults;
 use knot_columns::columns::Columns;
-use knot_lists::asked;
+use knot_files::asked;
 use knot_rows::ends;
 use knot_rows::ends::of_axis;
 use rules::Extent;
@@ -114,7 +113,7 @@ pub fn of_points(
     if number == rules::ANSWERED {
         return DONE;
     }
-    refusals::say(
+    knot_refusals::say(
         line,
         text,
         separator,

@@ -3,5 +3,4 @@
 //
 // Every function is proved safe, and to end; what is read and said no contract can say, and the gate compares it.
 pub mod indices;
-pub mod refusals;
 pub mod table;

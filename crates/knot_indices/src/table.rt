@@ -5,6 +5,7 @@ use console::lines::first_line;
 use fields::separator_of;
 use knot_columns::columns::Columns;
 use knot_columns::columns::say_unknown;
+use knot_files::asked;
 use knot_files::layout;
 use knot_files::layout::Layout;
 use knot_files::layout::check;
@@ -12,7 +13,6 @@ use knot_files::layout::counted;
 use knot_files::layout::layout_of;
 use knot_files::layout::repeated;
 use knot_files::layout::unknown;
-use knot_lists::asked;
 use knot_rows::rows;
 use words::word;
 

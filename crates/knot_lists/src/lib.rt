@@ -1,8 +1,6 @@
-// What a list of indices looks like: what is asked of it, the line that says what it is, and each knot's line behind its index.
+// What a list of indices looks like: the line that says what it is, and each knot's line behind its index.
 //
 // Every function is proved safe, and to end; what is written no contract can say, and the gate compares it.
-pub mod asked;
 pub mod lines;
 pub mod notes;
-pub mod places;
 mod shared;

@@ -1,33 +1,12 @@
 // The line that says what a list of indices is: dimension, order and box, in the words that `index` takes.
-use crate::asked;
-use crate::places::place_of;
 use console::lines::Span;
-use console::lines::field_of;
 use console::lines::part;
 use knot_columns::columns::Columns;
-use knot_columns::columns::column_of;
+use knot_files::asked;
+use knot_files::layout::field;
 use knot_rows::ends::points_at;
 use words::status::of_output;
 use words::word;
-
-// The field of a coordinate of a point.
-pub fn field(
-    text: &[u8],
-    separator: u8,
-    columns: Columns,
-    starts: &[u32; 65536],
-    axis: usize,
-    point: usize,
-) -> Span
-    ensures { λ _. ⊤ₛ }
-{
-    field_of(
-        text,
-        place_of(starts, point),
-        separator,
-        column_of(columns, axis),
-    )
-}
 
 // Puts a space and a field as it stands in the file, so that it names the same number.
 fn put_field(buffer: &mut [u8; 4096], at: usize, text: &[u8], field: Span) -> usize {

@@ -73,7 +73,7 @@ fn divide(
     let mut parts = [0u32; 65536];
     let mut order = [0u32; 65536];
     if !division::of_points(
-        knot_lists::asked::path(line),
+        knot_files::asked::path(line),
         asked::count(line),
         n,
         indices,

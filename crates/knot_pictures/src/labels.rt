@@ -6,9 +6,9 @@ use console::lines::part;
 use drawing::texts::put_text;
 use knot_columns::columns::Columns;
 use knot_columns::columns::column_of;
+use knot_files::asked;
 use knot_files::layout::Layout;
-use knot_lists::asked;
-use knot_lists::notes::field;
+use knot_files::layout::field;
 use knot_rows::ends::points_at;
 use words::word;
 

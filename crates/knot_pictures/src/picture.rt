@@ -44,7 +44,7 @@ pub(crate) fn print(
     table: &[u64; 4096],
 ) -> u8 {
     let mut buffer = [0u8; 4096];
-    let order = knot_lists::asked::order(line);
+    let order = knot_files::asked::order(line);
     let a = put_head(&mut buffer, line);
     let b = titles::put(&mut buffer, a, line, n, count, knots);
     let c = legend::put(&mut buffer, b, line, table);

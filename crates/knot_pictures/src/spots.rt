@@ -1,9 +1,9 @@
 // What is drawn of a knot, in one number: its spot in tenths of a pixel from the upper left corner, whether it shares its cell, and its part.
 // The knots stand in the order of their indices.
 use crate::axes::Axes;
-use knot_lists::places::number_at;
-use knot_lists::places::place_of;
 use knot_rows::ends::value_of;
+use numbered_lines::places::number_at;
+use numbered_lines::places::place_of;
 
 // How far the knots go across, up and aslant, and the room around them.
 pub(crate) const WIDTH: u64 = 8580;

@@ -50,13 +50,13 @@ fn put_title(buffer: &mut [u8; 4096], at: usize, line: &[u8], n: usize, count: u
         at,
         b"<text x='115' y='34' font-size='18' font-weight='bold'>",
     );
-    let b = put_file(buffer, a, knot_lists::asked::path(line));
+    let b = put_file(buffer, a, knot_files::asked::path(line));
     let c = printing::bytes(buffer, b, b": ");
     let d = put_count(buffer, c, n as u64, b" knot");
     let e = printing::bytes(buffer, d, b" in ");
     let f = printing::number(buffer, e, count as u64);
     let g = printing::bytes(buffer, f, b"d, order ");
-    let h = printing::number(buffer, g, knot_lists::asked::order(line) as u64);
+    let h = printing::number(buffer, g, knot_files::asked::order(line) as u64);
     let i = put_parts(buffer, h, line);
     printing::bytes(buffer, i, b"</text>\n")
 }

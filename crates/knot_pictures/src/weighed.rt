@@ -8,7 +8,7 @@ use knot_columns::columns;
 use knot_columns::columns::NO_COLUMN;
 use knot_columns::columns::say_unknown;
 use knot_files::layout::Layout;
-use knot_lists::places::place_of;
+use numbered_lines::places::place_of;
 
 // Reads the weight of a knot out of its line.
 fn read_line(
@@ -88,7 +88,7 @@ pub(crate) fn read(
         return false;
     }
     read_column(
-        knot_lists::asked::path(line),
+        knot_files::asked::path(line),
         text,
         layout.separator,
         column,

@@ -1,10 +1,10 @@
 // What is printed of the knots of a text: their box, or their indices.
 use knot_columns::columns::Columns;
+use knot_files::asked;
 use knot_files::layout::Layout;
 use knot_indices::indices;
 use knot_indices::table;
 use knot_indices::table::Table;
-use knot_lists::asked;
 use knot_lists::lines;
 use knot_lists::notes;
 use words::status::DONE;

@@ -1,13 +1,13 @@
 // The command line's part for knots: files them by Hilbert index, and says the box around them.
 //
-// The script skarvolm knows the commands and hands their words on, each in its place (`asked` of `knot_lists`). A file is read whole,
+// The script skarvolm knows the commands and hands their words on, each in its place (`asked` of `knot_files`). A file is read whole,
 // and what is wrong with it is said, with file, line and column, before anything is printed. What is right goes out through a buffer.
 // A buffer for a file is made here once, and lent as an array.
 mod index;
 
 use console::files;
 use console::files::Size;
-use knot_lists::asked;
+use knot_files::asked;
 use words::status::FAILED;
 
 // Carries out a command on a file.

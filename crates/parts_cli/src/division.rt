@@ -3,19 +3,12 @@ use crate::asked;
 use crate::summary;
 use divisions::division;
 use knot_files::layout::Layout;
-use knot_lists::lines::put_header;
-use knot_lists::lines::put_points;
-use knot_lists::places::place_of;
+use numbered_lines::lines::put_header;
+use numbered_lines::lines::put_points;
+use numbered_lines::places::widen;
 use whole_files::noted;
 use words::status::FAILED;
 use words::status::of_output;
-
-// The parts as numbers that can be put before lines.
-fn widen(parts: &[u32; 65536], numbers: &mut [u64; 65536]) {
-    for i in 0..65536usize {
-        numbers[i] = place_of(parts, i) as u64;
-    }
-}
 
 // Puts the line that says what is divided, where the list says what it is.
 fn put_note(buffer: &mut [u8; 4096], count: u32, text: &[u8], known: bool) -> usize {

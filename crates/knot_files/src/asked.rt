@@ -32,11 +32,15 @@ pub fn order(line: &[u8]) -> u32
     number_of(word(line, 3))
 }
 
-pub(crate) fn plain(line: &[u8]) -> bool {
+pub fn plain(line: &[u8]) -> bool
+    ensures { λ _. ⊤ₛ }
+{
     is(line, 4, b"plain")
 }
 
-pub(crate) fn sorted(line: &[u8]) -> bool {
+pub fn sorted(line: &[u8]) -> bool
+    ensures { λ _. ⊤ₛ }
+{
     is(line, 5, b"sorted")
 }
 

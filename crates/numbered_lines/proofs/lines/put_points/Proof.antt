@@ -1,8 +1,8 @@
 -- The loop counts up to its end, and every place that it touches is tested to be there.
 use Prim.Native.Nat.{_-_}
 use borrow.Author.Needs.{needs}
-use Rattle.knot_lists.proofs.lines.put_points.Statement.{statement}
-use Rattle.knot_lists.proofs.lines.put_points.Tie as tie
+use Rattle.numbered_lines.proofs.lines.put_points.Statement.{statement}
+use Rattle.numbered_lines.proofs.lines.put_points.Tie as tie
 
 abbrev Inv-loop : tie.InvT-loop
 Inv-loop buffer₀ at text separator n sorted points starts numbers next₀ i₀ buffer next i = Unit {0}

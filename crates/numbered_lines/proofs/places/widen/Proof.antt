@@ -1,8 +1,8 @@
 -- The loop counts up to its end, and every place that it touches is tested to be there.
 use Prim.Native.Nat.{_-_}
 use borrow.Author.Needs.{needs}
-use Rattle.parts_cli.proofs.division.widen.Statement.{statement}
-use Rattle.parts_cli.proofs.division.widen.Tie as tie
+use Rattle.numbered_lines.proofs.places.widen.Statement.{statement}
+use Rattle.numbered_lines.proofs.places.widen.Tie as tie
 
 abbrev Inv-loop : tie.InvT-loop
 Inv-loop parts numbers₀ i₀ numbers i = Unit {0}

@@ -1,6 +1,8 @@
 // Places that are kept in 32 bits: of a point's line in the text, of a point in the order of the indices.
 
-pub(crate) fn wide(n: u32) -> usize {
+pub fn wide(n: u32) -> usize
+    ensures { λ _. ⊤ₛ }
+{
     n as usize
 }
 
@@ -16,4 +18,13 @@ pub fn number_at(numbers: &[u64; 65536], points: &[u32; 65536], i: usize) -> u64
     ensures { λ _. ⊤ₛ }
 {
     numbers[place_of(points, i) % 65536]
+}
+
+// What is kept in 32 bits, as numbers that can be put before lines.
+pub fn widen(places: &[u32; 65536], numbers: &mut [u64; 65536])
+    ensures { λ _. ⊤ₛ }
+{
+    for i in 0..65536usize {
+        numbers[i] = place_of(places, i) as u64;
+    }
 }

@@ -1,4 +1,6 @@
 // Why knots are refused, with what can be said of the file: the column of a thin axis, the lines outside a box.
+//
+// Every function is proved safe, and to end; what is said no contract can say, and the gate compares it.
 use console::faults;
 use console::faults::REFUSED;
 use console::faults::full;
@@ -7,8 +9,8 @@ use console::faults::say_all;
 use console::lines::part;
 use knot_columns::columns::Columns;
 use knot_columns::columns::column_of;
-use knot_lists::asked;
-use knot_lists::notes::field;
+use knot_files::asked;
+use knot_files::layout::field;
 use knot_rows::ends::points_at;
 use knot_rows::ends::value_of;
 use words::status::FAILED;
@@ -159,7 +161,7 @@ fn say_axis(
 }
 
 // Says why knots are refused.
-pub(crate) fn say(
+pub fn say(
     line: &[u8],
     text: &[u8],
     separator: u8,
@@ -169,7 +171,9 @@ pub(crate) fn say(
     starts: &[u32; 65536],
     ends: &[f64; 6],
     number: u32,
-) -> u8 {
+) -> u8
+    ensures { λ _. ⊤ₛ }
+{
     let axis = axis_refused(ends, number);
     if axis == 3 {
         if number == rules::REFUSED_OUTSIDE {
