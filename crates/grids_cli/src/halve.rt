@@ -1,12 +1,14 @@
 // The halving of a grid, and what is shown of it.
-use crate::listing::print_ids;
-use crate::listing::print_splits;
-use crate::picture::draw;
-use crate::shape::Shape;
-use crate::shape::shape_of;
-use console::faults;
-use console::faults::say_all;
-use fields::separator_of;
+use crate::splits;
+use grid_files::file;
+use grid_files::file::Outcome;
+use grid_files::file::asked_or;
+use grid_files::file::say_refused;
+use grid_files::listing;
+use grid_files::shape::Shape;
+use grid_files::shape::nodes_of;
+use grid_files::shape::side;
+use grid_pictures::draw;
 use rules::Halving2;
 use rules::Halving3;
 use words::number_of;
@@ -19,30 +21,6 @@ pub struct Wish {
     pub edition: u32,
     pub first: u32,
     pub depth: u32,
-}
-
-// The number that word `i` names, a default where there is no such word.
-fn asked_or(line: &[u8], i: usize, default: u32) -> u32 {
-    if word(line, i).len() == 0 {
-        return default;
-    }
-    number_of(word(line, i))
-}
-
-// How many cuts a depth has.
-fn nodes_of(depth: u32) -> usize {
-    if 12 < depth {
-        return 0;
-    }
-    (1usize << depth) - 1
-}
-
-// A side, or a number that is refused as one.
-fn side(n: usize) -> u32 {
-    if n <= 1024 {
-        return n as u32;
-    }
-    1025
 }
 
 // The first n weights, or all where there are fewer.
@@ -116,26 +94,10 @@ fn show(
 ) -> u8 {
     let shown = place(line, 4, b"splits\npicture\n");
     match shown {
-        0 => print_splits(splits, nodes_of(depth)),
+        0 => splits::print(splits, nodes_of(depth)),
         1 => draw(shape, depth, weights, ids),
-        _ => print_ids(ids, shape),
+        _ => listing::print(shape, false, weights, ids),
     }
-}
-
-// Says why a grid is refused, with its sides where they are.
-fn refused(path: &[u8], shape: Shape, number: u32) -> u8 {
-    faults::begin(path);
-    if number == rules::REFUSED_SIDES {
-        faults::write(b" ");
-        faults::write_number(shape.width);
-        faults::write(b" by ");
-        faults::write_number(shape.height);
-        faults::write(b" by ");
-        faults::write_number(shape.layers);
-        faults::write(b":");
-    }
-    faults::end_refused(number);
-    FAILED
 }
 
 // Halves a grid and shows it, or says why it is refused.
@@ -144,7 +106,8 @@ fn halved(line: &[u8], shape: Shape, wish: Wish, weights: &[u64; 65536]) -> u8 {
     let mut ids = [0u32; 65536];
     let number = halve_in(shape, wish, weights, &mut splits, &mut ids);
     if number != rules::ANSWERED {
-        return refused(word(line, 2), shape, number);
+        say_refused(word(line, 2), shape, number);
+        return FAILED;
     }
     show(line, shape, wish.depth, weights, &splits, &ids)
 }
@@ -152,17 +115,14 @@ fn halved(line: &[u8], shape: Shape, wish: Wish, weights: &[u64; 65536]) -> u8 {
 // Reads a text's grid, halves it and shows it, or says what is wrong.
 pub(crate) fn of_text(line: &[u8], text: &[u8]) -> u8 {
     let mut weights = [0u64; 65536];
-    let mut kept = [0usize; 61];
-    let separator = separator_of(text);
-    let grid = whole_files::grid::read(text, separator, &mut weights, &mut kept);
-    if kept[0] != 0 {
-        say_all(word(line, 2), text, separator, &kept);
+    let grid = file::read(word(line, 2), text, &mut weights);
+    let Outcome::Grid(shape) = grid else {
         return FAILED;
-    }
+    };
     let wish = Wish {
         edition: asked_or(line, 5, rules::DEFAULT_EDITION),
         first: asked_or(line, 6, rules::DEFAULT_FIRST),
         depth: number_of(word(line, 3)),
     };
-    halved(line, shape_of(grid, separator), wish, &weights)
+    halved(line, shape, wish, &weights)
 }

@@ -18,3 +18,23 @@ pub(crate) fn shape_of(grid: Grid, separator: u8) -> Shape {
         separator,
     }
 }
+
+// A side, or a number that is refused as one.
+pub fn side(n: usize) -> u32
+    ensures { λ _. ⊤ₛ }
+{
+    if n <= 1024 {
+        return n as u32;
+    }
+    1025
+}
+
+// How many cuts a depth has.
+pub fn nodes_of(depth: u32) -> usize
+    ensures { λ _. ⊤ₛ }
+{
+    if 12 < depth {
+        return 0;
+    }
+    (1usize << depth) - 1
+}

@@ -1,8 +1,8 @@
 -- Each place is one of the array.
 use Prim.Native.Nat.{_≤_, _-_}
 use borrow.Author.Needs.{needs}
-use Rattle.grids_cli.proofs.picture.put_lines.Statement.{statement}
-use Rattle.grids_cli.proofs.picture.put_lines.Tie as tie
+use Rattle.grid_pictures.proofs.put_lines.Statement.{statement}
+use Rattle.grid_pictures.proofs.put_lines.Tie as tie
 
 abbrev Inv-loop : tie.InvT-loop
 Inv-loop buffer₀ at below grid ids cells next₀ i₀ buffer next i = i ≤ 65536

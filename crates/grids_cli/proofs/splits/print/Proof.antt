@@ -1,21 +1,22 @@
 -- The loop counts up to its end, and every place that it touches is tested to be there.
 use Prim.Native.Nat.{_-_}
 use borrow.Author.Needs.{needs}
-use Rattle.grids_cli.proofs.listing.print_ids.Statement.{statement}
-use Rattle.grids_cli.proofs.listing.print_ids.Tie as tie
+use Rattle.grids_cli.proofs.splits.print.Statement.{statement}
+use Rattle.grids_cli.proofs.splits.print.Tie as tie
 
 abbrev Inv-loop : tie.InvT-loop
-Inv-loop ids shape cells buffer₀ put₀ i₀ buffer put i = Unit {0}
+Inv-loop splits nodes buffer₀ put₀ i₀ buffer put i = Unit {0}
 
 abbrev μ-loop : tie.MeasureT-loop
-μ-loop ids shape cells buffer₀ put₀ i₀ buffer put i = 65536 - i
+μ-loop splits nodes buffer₀ put₀ i₀ buffer put i = 4095 - i
 
-pub print-ids-spec : {M : Type 1} → statement M
-print-ids-spec =
+pub print-spec : {M : Type 1} → statement M
+print-spec =
     tie.close
     (tie.spec
     Inv-loop
     μ-loop
+    (λ c. search needs)
     (λ c. search needs)
     (λ c. search needs)
     (λ c. search needs)

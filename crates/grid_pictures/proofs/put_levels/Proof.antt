@@ -1,8 +1,8 @@
 -- There are at most twelve levels.
 use Prim.Native.Nat.{_≤_, _-_}
 use borrow.Author.Needs.{needs}
-use Rattle.grids_cli.proofs.picture.put_levels.Statement.{statement}
-use Rattle.grids_cli.proofs.picture.put_levels.Tie as tie
+use Rattle.grid_pictures.proofs.put_levels.Statement.{statement}
+use Rattle.grid_pictures.proofs.put_levels.Tie as tie
 
 abbrev Inv-loop : tie.InvT-loop
 Inv-loop buffer₀ at depth grid ids next₀ below₀ buffer next below = below ≤ 12

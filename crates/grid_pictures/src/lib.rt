@@ -1,6 +1,8 @@
 // A picture of a halved grid, as SVG. Each cell is a square in its part's colour, darker where its weight is more, with its
 // place, weight and part as a title; the cuts are lines, thicker the earlier they were made. Layers stand beside each other.
-use crate::shape::Shape;
+//
+// Every function is proved safe, and to end; what is written no contract can say, and the gate compares it.
+use grid_files::shape::Shape;
 use words::status::of_output;
 ghost use Prim.Native.Nat.{_≤_};
 
@@ -271,7 +273,9 @@ fn put_head(buffer: &mut [u8; 4096], shape: Shape) -> usize {
 }
 
 // Draws a halved grid, with the cuts of so many levels.
-pub(crate) fn draw(shape: Shape, depth: u32, weights: &[u64; 65536], ids: &[u32; 65536]) -> u8 {
+pub fn draw(shape: Shape, depth: u32, weights: &[u64; 65536], ids: &[u32; 65536]) -> u8
+    ensures { λ _. ⊤ₛ }
+{
     let mut buffer = [0u8; 4096];
     let a = put_head(&mut buffer, shape);
     let b = put_cells(&mut buffer, a, shape, weights, ids);

@@ -1,8 +1,8 @@
 -- Each place is one of the array.
 use Prim.Native.Nat.{_≤_, _-_}
 use borrow.Author.Needs.{needs}
-use Rattle.grids_cli.proofs.picture.heaviest.Statement.{statement}
-use Rattle.grids_cli.proofs.picture.heaviest.Tie as tie
+use Rattle.grid_pictures.proofs.heaviest.Statement.{statement}
+use Rattle.grid_pictures.proofs.heaviest.Tie as tie
 
 abbrev Inv-loop : tie.InvT-loop
 Inv-loop weights cells most₀ i₀ most i = i ≤ 65536

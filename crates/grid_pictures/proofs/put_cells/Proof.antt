@@ -1,8 +1,8 @@
 -- Each place is one of the array.
 use Prim.Native.Nat.{_≤_, _-_}
 use borrow.Author.Needs.{needs}
-use Rattle.grids_cli.proofs.picture.put_cells.Statement.{statement}
-use Rattle.grids_cli.proofs.picture.put_cells.Tie as tie
+use Rattle.grid_pictures.proofs.put_cells.Statement.{statement}
+use Rattle.grid_pictures.proofs.put_cells.Tie as tie
 
 abbrev Inv-loop : tie.InvT-loop
 Inv-loop buffer₀ at grid weights ids cells most next₀ i₀ buffer next i = i ≤ 65536

@@ -2,8 +2,8 @@
 use native.Mathlib.Omega.{arith}
 use native.Mathlib.Nat.{mul-le-mul}
 use borrow.Author.Needs.{needs}
-use Rattle.grids_cli.proofs.picture.layer_start.Statement.{statement}
-use Rattle.grids_cli.proofs.picture.layer_start.Tie as tie
+use Rattle.grid_pictures.proofs.layer_start.Statement.{statement}
+use Rattle.grid_pictures.proofs.layer_start.Tie as tie
 
 mul-result : tie.Need-mul-result
 mul-result c = omega (arith, mul-le-mul (c .pre .0) (c .pre .1))
