@@ -1,13 +1,15 @@
 -- What is known of a call that is not refused.
 use Prim.Native.Nat.{ℕ, _-_, _^_, _≤_, _<_}
 use mathlib.Core.Path.{_≡_}
+use mathlib.Core.Bool.{false}
 use mathlib.Core.List.{List}
 use lib.ListN.{getD, length}
 use Rattle.rules.specs.Grid.{cells, on}
-use Rattle.rules.specs.Refusals.{topSide, topCells, topDepth, topWeight}
+use Rattle.rules.specs.Refusals.{topSide, topCells, topDepth, topWeight, editionUnknown}
 use Rattle.rules.specs.Halving.{Halving}
 
 pub record Accepted (h : Halving) (ws splits ids : List ℕ) : Type 0 where
+  pub edition-known : editionUnknown (h .edition) ≡ false
   pub first-fits : h .first < length (h .sides)
   pub sides-fit : (a : ℕ) → a < length (h .sides) → (1 ≤ on (h .sides) a) × (on (h .sides) a ≤ topSide)
   pub few : cells (h .sides) ≤ topCells
