@@ -1,1 +1,2 @@
 pub mod PartsCases
+pub mod ReplayCases
