@@ -1,3 +1,4 @@
 pub mod Demands
 pub mod NotIdle
 pub mod Parts
+pub mod Replay

@@ -1,0 +1,10 @@
+pub mod Events
+pub mod History
+pub mod Bounds
+pub mod InForce
+pub mod Sums
+pub mod Step
+pub mod Accepted
+pub mod Pieces
+pub mod NotInPieces
+pub mod Leaving
