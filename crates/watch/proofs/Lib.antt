@@ -1,0 +1,2 @@
+pub mod Followed
+pub mod Once

@@ -1,0 +1,3 @@
+pub mod Carry
+pub mod Powers
+pub mod Once
