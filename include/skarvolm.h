@@ -19,6 +19,7 @@
  *  12  a part count of 0 or over 1,024, or over 65,536 points
  *  13  the edition is neither 1 nor 2
  *  14  the first axis is not one of the grid's
+ *  20  an event's cell is not in the grid
  *
  * A pointer is not null and points to live memory, a slice to as many elements as its length says (to any aligned address
  * where that is 0), and what is written overlaps nothing else that is passed.
@@ -112,6 +113,21 @@ uint32_t skarvolm_halve_3d(uint32_t edition, uint32_t width, uint32_t height, ui
  * order a point. Tests 12, 4, 5, 11. */
 uint32_t skarvolm_parts(uint32_t n, const uint64_t *indices, size_t indices_length, const uint64_t *weights,
                         size_t weights_length, uint32_t *parts, size_t parts_length, uint32_t *order, size_t order_length);
+
+/* A bench night replayed on a grid: it is halved by edition 2, across the axis `first` first, and then each event adds an amount
+ * to the cell of a number. An event is answered 20 where its cell is not in the grid, 11 where the cell would be over 16,777,215,
+ * else 0; one that is not answered 0 changes nothing else. After each event answered 0 the bounds of a part's weight (demand 3)
+ * are tested for every id, exactly, with the weights of that moment; where one is broken the grid is halved afresh. So at the end
+ * each weight is its start plus the amounts answered 0, the bounds hold of the ids, and splits and ids are those of the last
+ * halving. One amount and one answer an event. Tests 14, 9, 10, 5, 11. */
+uint32_t skarvolm_replay_2d(uint32_t width, uint32_t height, uint32_t first, uint32_t depth, uint64_t *weights,
+                            size_t weights_length, const uint64_t *cells, size_t cells_length, const uint64_t *amounts,
+                            size_t amounts_length, uint32_t *answers, size_t answers_length, uint32_t *splits,
+                            size_t splits_length, uint32_t *ids, size_t ids_length);
+uint32_t skarvolm_replay_3d(uint32_t width, uint32_t height, uint32_t layers, uint32_t first, uint32_t depth,
+                            uint64_t *weights, size_t weights_length, const uint64_t *cells, size_t cells_length,
+                            const uint64_t *amounts, size_t amounts_length, uint32_t *answers, size_t answers_length,
+                            uint32_t *splits, size_t splits_length, uint32_t *ids, size_t ids_length);
 
 #ifdef __cplusplus
 }

@@ -20,6 +20,16 @@ pub struct Grid<const D: usize> {
     size: [u32; D],
 }
 
+/// What a replayed night leaves beside the weights and the partition: the cuts of the last halving, as [`Grid::<2>::halve`] has
+/// them, and the answer to each event.
+#[derive(Clone, Debug, PartialEq, Eq)]
+pub struct Replayed {
+    /// The cuts of the last halving.
+    pub splits: Vec<u32>,
+    /// Of each event: accepted, or refused by [`Refused::Cell`] or [`Refused::Weight`] and then without effect.
+    pub answers: Vec<Result<(), Refused>>,
+}
+
 impl Grid<2> {
     /// A grid of two sides. They are tested when it is halved.
     pub fn new_2d(width: u32, height: u32) -> Self {
@@ -78,6 +88,64 @@ impl Grid<2> {
         };
         answered(number, splits)
     }
+    /// Replays a bench night: halves the grid by edition 2, as [`Grid::<2>::halve`] does, and then lets each event add an amount to
+    /// the cell of a number. Writes the weights and the part of each cell after the night.
+    ///
+    /// An event whose cell is not in the grid, or would weigh over 16,777,215, is refused alone and changes nothing. After each
+    /// accepted event the bounds of a part's weight are tested for every part, and where one is broken the grid is halved
+    /// afresh; so the bounds hold of the partition after the night, while the splits are those of the last halving. Refuses by
+    /// [`Refused::First`], [`Refused::Sides`], [`Refused::Depth`] (of `iter_count`), [`Refused::Lengths`], [`Refused::Weight`], in
+    /// this order, and leaves `partition` and `weights` untouched then.
+    ///
+    /// ```
+    /// use skarvolm::{Grid, Refused};
+    ///
+    /// let (mut partition, mut weights) = ([0; 9], [0; 9]);
+    /// let night = Grid::new_2d(3, 3).replay(1, &mut partition, &mut weights, &[0, 9, 4, 8], &[1, 1, 1, 1], 2)?;
+    /// assert_eq!(night.answers, [Ok(()), Err(Refused::Cell), Ok(()), Ok(())]);
+    /// assert_eq!(weights, [1, 0, 0, 0, 1, 0, 0, 0, 1]);
+    /// assert_eq!(partition, [1, 1, 1, 2, 2, 3, 2, 2, 3]);
+    /// # Ok::<(), skarvolm::Refused>(())
+    /// ```
+    pub fn replay(
+        self,
+        first: u32,
+        partition: &mut [u32],
+        weights: &mut [u64],
+        cells: &[u64],
+        amounts: &[u64],
+        iter_count: u32,
+    ) -> Result<Replayed, Refused> {
+        let [width, height] = self.size;
+        let mut splits = vec![0; node_count(iter_count)];
+        let mut answers = vec![0; cells.len()];
+        // SAFETY: each pointer and length is a live slice's; those that are written overlap nothing.
+        let number = unsafe {
+            sys::skarvolm_replay_2d(
+                width,
+                height,
+                first,
+                iter_count,
+                weights.as_mut_ptr(),
+                weights.len(),
+                cells.as_ptr(),
+                cells.len(),
+                amounts.as_ptr(),
+                amounts.len(),
+                answers.as_mut_ptr(),
+                answers.len(),
+                splits.as_mut_ptr(),
+                splits.len(),
+                partition.as_mut_ptr(),
+                partition.len(),
+            )
+        };
+        answered(number, ())?;
+        Ok(Replayed {
+            splits,
+            answers: answers.into_iter().map(|said| answered(said, ())).collect(),
+        })
+    }
 }
 
 impl Grid<3> {
@@ -123,6 +191,47 @@ impl Grid<3> {
             )
         };
         answered(number, splits)
+    }
+    /// Replays a bench night in 3D, as [`Grid::<2>::replay`] does in 2D.
+    pub fn replay(
+        self,
+        first: u32,
+        partition: &mut [u32],
+        weights: &mut [u64],
+        cells: &[u64],
+        amounts: &[u64],
+        iter_count: u32,
+    ) -> Result<Replayed, Refused> {
+        let [width, height, layers] = self.size;
+        let mut splits = vec![0; node_count(iter_count)];
+        let mut answers = vec![0; cells.len()];
+        // SAFETY: each pointer and length is a live slice's; those that are written overlap nothing.
+        let number = unsafe {
+            sys::skarvolm_replay_3d(
+                width,
+                height,
+                layers,
+                first,
+                iter_count,
+                weights.as_mut_ptr(),
+                weights.len(),
+                cells.as_ptr(),
+                cells.len(),
+                amounts.as_ptr(),
+                amounts.len(),
+                answers.as_mut_ptr(),
+                answers.len(),
+                splits.as_mut_ptr(),
+                splits.len(),
+                partition.as_mut_ptr(),
+                partition.len(),
+            )
+        };
+        answered(number, ())?;
+        Ok(Replayed {
+            splits,
+            answers: answers.into_iter().map(|said| answered(said, ())).collect(),
+        })
     }
 }
 

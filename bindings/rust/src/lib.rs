@@ -29,7 +29,7 @@ mod refused;
 mod sys;
 
 pub use curve::HilbertCurve;
-pub use grid::{Grid, NOT_CUT};
+pub use grid::{Grid, Replayed, NOT_CUT};
 pub use refused::Refused;
 
 /// The bits of `source`, lowest first, laid onto the set bits of `mask`, lowest first. Never refused.

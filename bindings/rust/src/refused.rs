@@ -32,11 +32,13 @@ pub enum Refused {
     Edition = 13,
     /// The first axis is not one of the grid's.
     First = 14,
+    /// An event's cell is not in the grid.
+    Cell = 20,
 }
 
 impl Refused {
     /// Every refusal, in the order of the numbers.
-    pub const ALL: [Refused; 14] = [
+    pub const ALL: [Refused; 15] = [
         Refused::Order,
         Refused::Coordinate,
         Refused::Index,
@@ -51,9 +53,10 @@ impl Refused {
         Refused::Counts,
         Refused::Edition,
         Refused::First,
+        Refused::Cell,
     ];
 
-    /// The number of the refusal, from 1 to 14.
+    /// The number of the refusal.
     pub fn number(self) -> u32 {
         self as u32
     }
@@ -76,6 +79,7 @@ impl fmt::Display for Refused {
             Refused::Counts => "a part count of 0 or over 1,024, or over 65,536 points",
             Refused::Edition => "the edition is neither 1 nor 2",
             Refused::First => "the first axis is not one of the grid's",
+            Refused::Cell => "an event's cell is not in the grid",
         })
     }
 }

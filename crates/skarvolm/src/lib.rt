@@ -10,7 +10,8 @@ ghost use Rattle.rules.specs.Curve.{depositOf, encode2, encode3, decode2, decod
 ghost use Rattle.rules.specs.Knots.{indexAll2, indexAll3};
 ghost use Rattle.requests.specs.Parts.{partsAlong};
 ghost use Rattle.axis_out.specs.Cells.{cellBetween};
-ghost use Rattle.skarvolm.specs.Calls.{in2, in3, rcb2, rcb3, halve2, halve3};
+ghost use Rattle.skarvolm.specs.Calls.{in2, in3, rcb2, rcb3, halve2, halve3, replay2, replay3};
+use rules::EDITION_2;
 use rules::Extent;
 use rules::Halving2;
 use rules::Halving3;
@@ -265,4 +266,66 @@ pub extern "C" fn skarvolm_parts(
     ensures order { λ _. ⌜ now (order .exit) ≡ partsAlong n (now (indices .entry)) (now (weights .entry)) (now (parts .entry)) (now (order .entry)) .order ⌝ }
 {
     parts::parts_along(n, indices, weights, parts, order)
+}
+
+// A bench night replayed on a grid, by edition 2: the weights, answers, splits and ids after it.
+#[no_mangle]
+pub extern "C" fn skarvolm_replay_2d(
+    width: u32,
+    height: u32,
+    first: u32,
+    depth: u32,
+    weights: &mut [u64],
+    cells: &[u64],
+    amounts: &[u64],
+    answers: &mut [u32],
+    splits: &mut [u32],
+    ids: &mut [u32],
+) -> u32
+    ensures number { λ r. ⌜ r ≡ replay2 width height first depth (now (weights .entry)) (now (cells .entry)) (now (amounts .entry)) (now (answers .entry)) (now (splits .entry)) (now (ids .entry)) .number ⌝ }
+    ensures weights { λ _. ⌜ now (weights .exit) ≡ replay2 width height first depth (now (weights .entry)) (now (cells .entry)) (now (amounts .entry)) (now (answers .entry)) (now (splits .entry)) (now (ids .entry)) .weights ⌝ }
+    ensures answers { λ _. ⌜ now (answers .exit) ≡ replay2 width height first depth (now (weights .entry)) (now (cells .entry)) (now (amounts .entry)) (now (answers .entry)) (now (splits .entry)) (now (ids .entry)) .answers ⌝ }
+    ensures splits { λ _. ⌜ now (splits .exit) ≡ replay2 width height first depth (now (weights .entry)) (now (cells .entry)) (now (amounts .entry)) (now (answers .entry)) (now (splits .entry)) (now (ids .entry)) .splits ⌝ }
+    ensures ids { λ _. ⌜ now (ids .exit) ≡ replay2 width height first depth (now (weights .entry)) (now (cells .entry)) (now (amounts .entry)) (now (answers .entry)) (now (splits .entry)) (now (ids .entry)) .ids ⌝ }
+{
+    let by_edition_2 = Halving2 {
+        edition: EDITION_2,
+        width,
+        height,
+        first,
+        depth,
+    };
+    replay::replay_2d(by_edition_2, weights, cells, amounts, answers, splits, ids)
+}
+
+// A bench night replayed on a grid in 3D, by edition 2: the weights, answers, splits and ids after it.
+#[no_mangle]
+pub extern "C" fn skarvolm_replay_3d(
+    width: u32,
+    height: u32,
+    layers: u32,
+    first: u32,
+    depth: u32,
+    weights: &mut [u64],
+    cells: &[u64],
+    amounts: &[u64],
+    answers: &mut [u32],
+    splits: &mut [u32],
+    ids: &mut [u32],
+) -> u32
+    ensures number { λ r. ⌜ r ≡ replay3 width height layers first depth (now (weights .entry)) (now (cells .entry)) (now (amounts .entry)) (now (answers .entry)) (now (splits .entry)) (now (ids .entry)) .number ⌝ }
+    ensures weights { λ _. ⌜ now (weights .exit) ≡ replay3 width height layers first depth (now (weights .entry)) (now (cells .entry)) (now (amounts .entry)) (now (answers .entry)) (now (splits .entry)) (now (ids .entry)) .weights ⌝ }
+    ensures answers { λ _. ⌜ now (answers .exit) ≡ replay3 width height layers first depth (now (weights .entry)) (now (cells .entry)) (now (amounts .entry)) (now (answers .entry)) (now (splits .entry)) (now (ids .entry)) .answers ⌝ }
+    ensures splits { λ _. ⌜ now (splits .exit) ≡ replay3 width height layers first depth (now (weights .entry)) (now (cells .entry)) (now (amounts .entry)) (now (answers .entry)) (now (splits .entry)) (now (ids .entry)) .splits ⌝ }
+    ensures ids { λ _. ⌜ now (ids .exit) ≡ replay3 width height layers first depth (now (weights .entry)) (now (cells .entry)) (now (amounts .entry)) (now (answers .entry)) (now (splits .entry)) (now (ids .entry)) .ids ⌝ }
+{
+    let by_edition_2 = Halving3 {
+        edition: EDITION_2,
+        width,
+        height,
+        layers,
+        first,
+        depth,
+    };
+    replay::replay_3d(by_edition_2, weights, cells, amounts, answers, splits, ids)
 }
