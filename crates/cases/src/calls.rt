@@ -9,6 +9,7 @@ use crate::curves::decode_2d;
 use crate::curves::decode_3d;
 use crate::curves::encode;
 use crate::grids;
+use crate::nights;
 use crate::points;
 use crate::sheet::ANSWERED;
 use crate::sheet::FIRST_PART;
@@ -38,7 +39,7 @@ fn with_digit(number: u64, digit: u64) -> u64 {
 // The number that tells a request; one that is not ended has no parts.
 fn request_of(name: &[u8], sheet: &[u64; 331776]) -> u64 {
     let call = number_in(
-        b"deposit encode_2d encode_3d decode_2d decode_3d cell cell_flat cell_sloped extent_of rcb_2d rcb_3d index_2d index_3d index_2d_in index_3d_in halve_2d halve_3d parts_along",
+        b"deposit encode_2d encode_3d decode_2d decode_3d cell cell_flat cell_sloped extent_of rcb_2d rcb_3d index_2d index_3d index_2d_in index_3d_in halve_2d halve_3d parts_along replay_2d replay_3d",
         name,
     );
     if sheet[WANTED] == 0 {
@@ -96,6 +97,7 @@ pub(crate) fn call(name: &[u8], sheet: &mut [u64; 331776]) {
         1350 | 1351 | 1557 => points::index(request, 8, sheet),
         1645 | 1746 => grids::rcb(1, sheet),
         1851 => along::parts_along(sheet),
+        1975 | 2076 => nights::night(sheet),
         _ => call_few(request, sheet),
     }
 }

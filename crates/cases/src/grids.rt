@@ -54,7 +54,7 @@ pub(crate) fn put_first(room: &[u32; 65536], said: usize, sheet: &mut [u64; 3317
 }
 
 // Number k of a request's first part; 0 where there is none.
-fn side(sides: &[u64], k: usize) -> u32 {
+pub(crate) fn side(sides: &[u64], k: usize) -> u32 {
     if k < sides.len() {
         return small(sides[k]);
     }

@@ -14,6 +14,7 @@ mod files;
 mod floats;
 mod grids;
 mod line;
+mod nights;
 mod numbers;
 mod points;
 mod sheet;
