@@ -9,7 +9,7 @@
 #include <stdio.h>
 #include <string.h>
 
-enum { INPUTS = 16, POINTS = 500, CELLS = 65536, NODES = 4095 };
+enum { INPUTS = 16, POINTS = 500, CELLS = 65536, NODES = 4095, EVENTS = 100000 };
 
 struct side {
     uint64_t (*deposit)(uint64_t, uint64_t);
@@ -29,22 +29,24 @@ struct side {
     uint32_t (*halve_2d)(uint32_t, uint32_t, uint32_t, uint32_t, uint32_t, const uint64_t *, size_t, uint32_t *, size_t,
                          uint32_t *, size_t);
     uint32_t (*parts)(uint32_t, const uint64_t *, size_t, const uint64_t *, size_t, uint32_t *, size_t, uint32_t *, size_t);
+    uint32_t (*replay_2d)(uint32_t, uint32_t, uint32_t, uint32_t, uint64_t *, size_t, const uint64_t *, size_t,
+                          const uint64_t *, size_t, uint32_t *, size_t, uint32_t *, size_t, uint32_t *, size_t);
 };
 
 static const struct side library = {
     skarvolm_deposit, skarvolm_encode_2d, skarvolm_encode_3d, skarvolm_decode_2d,   skarvolm_decode_3d,
     skarvolm_cell,    skarvolm_index_2d,  skarvolm_index_3d,  skarvolm_index_2d_in, skarvolm_rcb_2d,
-    skarvolm_rcb_3d,  skarvolm_halve_2d,  skarvolm_parts,
+    skarvolm_rcb_3d,  skarvolm_halve_2d,  skarvolm_parts,     skarvolm_replay_2d,
 };
 static const struct side plain = {
     plain_deposit, plain_encode_2d, plain_encode_3d, plain_decode_2d,   plain_decode_3d,
     plain_cell,    plain_index_2d,  plain_index_3d,  plain_index_2d_in, plain_rcb_2d,
-    plain_rcb_3d,  plain_halve_2d,  plain_parts,
+    plain_rcb_3d,  plain_halve_2d,  plain_parts,     plain_replay_2d,
 };
 static const struct side empty = {
     empty_deposit, empty_encode_2d, empty_encode_3d, empty_decode_2d,   empty_decode_3d,
     empty_cell,    empty_index_2d,  empty_index_3d,  empty_index_2d_in, empty_rcb_2d,
-    empty_rcb_3d,  empty_halve_2d,  empty_parts,
+    empty_rcb_3d,  empty_halve_2d,  empty_parts,     empty_replay_2d,
 };
 
 struct operation {
@@ -56,12 +58,12 @@ struct operation {
 
 /* INPUTS AND ANSWERS */
 
-static uint64_t numbers[3][INPUTS], weights[CELLS], indices[CELLS];
+static uint64_t numbers[3][INPUTS], weights[CELLS], indices[CELLS], places[EVENTS], amounts[EVENTS];
 static double values[3][POINTS];
 
 static struct {
-    uint64_t refused, wide[3][POINTS];
-    uint32_t splits[NODES], ids[CELLS], order[CELLS];
+    uint64_t refused, wide[3][POINTS], weights[CELLS];
+    uint32_t splits[NODES], ids[CELLS], order[CELLS], said[EVENTS];
 } answers, others;
 
 static uint64_t draw(void) {
@@ -73,10 +75,53 @@ static uint64_t draw(void) {
 }
 
 static size_t cells_of(const struct operation *o) { return (size_t)o->sides[0] * o->sides[1] * o->sides[2]; }
+static size_t nodes_of(const struct operation *o) { return ((size_t)1 << o->order) - 1; }
 
 static void run_parts(const struct side *, const struct operation *, uint32_t);
 static void run_rising(const struct side *, const struct operation *, uint32_t);
 static void run_falling(const struct side *, const struct operation *, uint32_t);
+static void run_events(const struct side *, const struct operation *, uint32_t);
+static void run_in_turn(const struct side *, const struct operation *, uint32_t);
+static void run_tight(const struct side *, const struct operation *, uint32_t);
+static void run_night(const struct side *, const struct operation *, uint32_t);
+
+/* how many events are called for at most: two runs' where they run on, else one's */
+static uint32_t events_of(const struct operation *o) { return o->run == run_night ? o->points : 2 * o->points; }
+
+/* events at any cell, of amounts from 1 to 100 */
+static void draw_events(const struct operation *o) {
+    for (uint32_t i = 0; i < events_of(o); i++) {
+        places[i] = draw() % cells_of(o);
+        amounts[i] = 1 + draw() % 100;
+    }
+}
+
+/* Each cell is a part of its own, heavier by 1 than the part of the id before, and they are raised in order of id by as much
+ * as there are parts: so each is the lightest when its turn comes, and no other is as light. */
+static void draw_in_turn(const struct operation *o) {
+    size_t cells = cells_of(o);
+    for (size_t i = 0; i < cells; i++)
+        weights[i] = 1;
+    plain_halve_2d(2, o->sides[0], o->sides[1], 1, o->order, weights, cells, answers.splits, nodes_of(o), answers.ids, cells);
+    for (uint32_t i = 0; i < cells; i++) {
+        weights[i] = 1000000 + answers.ids[i];
+        places[answers.ids[i]] = i;
+    }
+    for (uint32_t i = 0; i < events_of(o); i++) {
+        places[i] = places[i % cells];
+        amounts[i] = cells;
+    }
+}
+
+/* A grid of zeros is one part, which three cells take to a little over twice the heaviest line: the upper bound holds at depth
+ * 12, but by less than a hundredth a level, so that its products are needed. Two cells that grow in turn keep it there. */
+static void draw_tight(const struct operation *o) {
+    memset(weights, 0, sizeof weights);
+    for (uint32_t i = 0; i < events_of(o); i++) {
+        places[i] = (i == 2 ? 2 : i % 2) * (o->sides[0] + 1);
+        amounts[i] = i < 2 ? 10000000 : i == 2 ? 207300 : 1;
+    }
+}
 
 /* numbers of so many bits, the highest set; values from -50 to 50; weights from 1 to 100; indices of so many bits, as they are
  * drawn, rising or falling */
@@ -94,6 +139,14 @@ static void draw_inputs(const struct operation *o) {
                      : o->run == run_falling ? cells_of(o) - i
                      : o->run == run_parts   ? draw() & ((UINT64_C(1) << o->bits) - 1)
                                              : 0;
+    if (o->run == run_events || o->run == run_night)
+        draw_events(o);
+    if (o->run == run_night)
+        memset(weights, 0, sizeof weights);
+    if (o->run == run_in_turn)
+        draw_in_turn(o);
+    if (o->run == run_tight)
+        draw_tight(o);
 }
 
 /* OPERATIONS: each calls a side's function so many times */
@@ -157,21 +210,21 @@ static void run_index_3d(const struct side *s, const struct operation *o, uint32
 }
 
 static void run_rcb_2d(const struct side *s, const struct operation *o, uint32_t calls) {
-    size_t cells = cells_of(o), nodes = ((size_t)1 << o->order) - 1;
+    size_t cells = cells_of(o), nodes = nodes_of(o);
     for (uint32_t i = 0; i < calls; i++)
         answers.refused |=
             s->rcb_2d(o->sides[0], o->sides[1], o->order, weights, cells, answers.splits, nodes, answers.ids, cells);
 }
 
 static void run_rcb_3d(const struct side *s, const struct operation *o, uint32_t calls) {
-    size_t cells = cells_of(o), nodes = ((size_t)1 << o->order) - 1;
+    size_t cells = cells_of(o), nodes = nodes_of(o);
     for (uint32_t i = 0; i < calls; i++)
         answers.refused |= s->rcb_3d(o->sides[0], o->sides[1], o->sides[2], o->order, weights, cells, answers.splits, nodes,
                                      answers.ids, cells);
 }
 
 static void run_halve_2d(const struct side *s, const struct operation *o, uint32_t calls) {
-    size_t cells = cells_of(o), nodes = ((size_t)1 << o->order) - 1;
+    size_t cells = cells_of(o), nodes = nodes_of(o);
     for (uint32_t i = 0; i < calls; i++)
         answers.refused |=
             s->halve_2d(2, o->sides[0], o->sides[1], 1, o->order, weights, cells, answers.splits, nodes, answers.ids, cells);
@@ -187,6 +240,26 @@ static void run_parts(const struct side *s, const struct operation *o, uint32_t 
 static void run_rising(const struct side *s, const struct operation *o, uint32_t calls) { run_parts(s, o, calls); }
 
 static void run_falling(const struct side *s, const struct operation *o, uint32_t calls) { run_parts(s, o, calls); }
+
+static void replay(const struct side *s, const struct operation *o, uint32_t events) {
+    size_t cells = cells_of(o);
+    memcpy(answers.weights, weights, cells * sizeof *weights);
+    answers.refused |= s->replay_2d(o->sides[0], o->sides[1], 1, o->order, answers.weights, cells, places, events, amounts,
+                                    events, answers.said, events, answers.splits, nodes_of(o), answers.ids, cells);
+}
+
+/* one replay, of so many times the operation's events: two runs differ by events alone */
+static void run_events(const struct side *s, const struct operation *o, uint32_t calls) { replay(s, o, calls * o->points); }
+
+static void run_in_turn(const struct side *s, const struct operation *o, uint32_t calls) { run_events(s, o, calls); }
+
+static void run_tight(const struct side *s, const struct operation *o, uint32_t calls) { run_events(s, o, calls); }
+
+/* whole replays, from the first halving on */
+static void run_night(const struct side *s, const struct operation *o, uint32_t calls) {
+    for (uint32_t i = 0; i < calls; i++)
+        replay(s, o, o->points);
+}
 
 static const struct operation operations[] = {
     {"deposit-12", 12, INPUTS, 1, 0, {0}, run_deposit, "deposit of 12 bits"},
@@ -215,6 +288,11 @@ static const struct operation operations[] = {
     {"parts-rising", 60, 1, CELLS, 64, {CELLS, 1, 1}, run_rising, "the same, indices rising"},
     {"parts-falling", 60, 1, CELLS, 64, {CELLS, 1, 1}, run_falling, "the same, indices falling"},
     {"parts-equal", 0, 1, CELLS, 64, {CELLS, 1, 1}, run_parts, "the same, indices equal"},
+    {"replay-64", 0, 1, 1000, 8, {64, 64, 1}, run_events, "an event of a replay, 64 by 64 at depth 8"},
+    {"replay-256", 0, 1, 1000, 8, {256, 256, 1}, run_events, "an event of a replay, 256 by 256 at depth 8"},
+    {"replay-lightest", 0, 1, 4096, 12, {64, 64, 1}, run_in_turn, "the same at depth 12, the lightest part's"},
+    {"replay-tight", 0, 1, 1000, 12, {64, 64, 1}, run_tight, "the same, the upper bound by products"},
+    {"replay-100000", 0, 1, EVENTS, 8, {64, 64, 1}, run_night, "replay_2d of 100,000 events, an event"},
 };
 enum { OPERATIONS = sizeof operations / sizeof *operations };
 

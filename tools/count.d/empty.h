@@ -40,3 +40,9 @@ static uint32_t empty_parts(uint32_t n, const uint64_t *indices, size_t indices_
                             size_t order_length) {
     return 0;
 }
+static uint32_t empty_replay_2d(uint32_t width, uint32_t height, uint32_t first, uint32_t depth, uint64_t *weights,
+                                size_t weights_length, const uint64_t *cells, size_t cells_length, const uint64_t *amounts,
+                                size_t amounts_length, uint32_t *answers, size_t answers_length, uint32_t *splits,
+                                size_t splits_length, uint32_t *ids, size_t ids_length) {
+    return 0;
+}

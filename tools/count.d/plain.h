@@ -23,3 +23,7 @@ uint32_t plain_halve_2d(uint32_t edition, uint32_t width, uint32_t height, uint3
                         uint32_t *ids, size_t ids_length);
 uint32_t plain_parts(uint32_t n, const uint64_t *indices, size_t indices_length, const uint64_t *weights,
                      size_t weights_length, uint32_t *parts, size_t parts_length, uint32_t *order, size_t order_length);
+uint32_t plain_replay_2d(uint32_t width, uint32_t height, uint32_t first, uint32_t depth, uint64_t *weights,
+                         size_t weights_length, const uint64_t *cells, size_t cells_length, const uint64_t *amounts,
+                         size_t amounts_length, uint32_t *answers, size_t answers_length, uint32_t *splits,
+                         size_t splits_length, uint32_t *ids, size_t ids_length);
