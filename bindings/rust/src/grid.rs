@@ -140,11 +140,7 @@ impl Grid<2> {
                 partition.len(),
             )
         };
-        answered(number, ())?;
-        Ok(Replayed {
-            splits,
-            answers: answers.into_iter().map(|said| answered(said, ())).collect(),
-        })
+        replayed(number, splits, answers)
     }
 }
 
@@ -227,11 +223,7 @@ impl Grid<3> {
                 partition.len(),
             )
         };
-        answered(number, ())?;
-        Ok(Replayed {
-            splits,
-            answers: answers.into_iter().map(|said| answered(said, ())).collect(),
-        })
+        replayed(number, splits, answers)
     }
 }
 
@@ -242,4 +234,13 @@ fn node_count(iter_count: u32) -> usize {
     } else {
         0
     }
+}
+
+/// What a call that replays a night answers by its number and slices.
+fn replayed(number: u32, splits: Vec<u32>, answers: Vec<u32>) -> Result<Replayed, Refused> {
+    answered(number, ())?;
+    Ok(Replayed {
+        splits,
+        answers: answers.into_iter().map(|said| answered(said, ())).collect(),
+    })
 }
