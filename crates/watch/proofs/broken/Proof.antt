@@ -5,6 +5,8 @@ use mathlib.Core.Path.{_∙_, ap, sym}
 use mathlib.Core.Bool.{not}
 use lib.Pow.{pow-mono}
 use borrow.Author.Needs.{needs}
+use Rattle.requests.specs.Order.{at}
+use Rattle.bounds.specs.Small.{topSum}
 use Rattle.lightest.specs.Tree.{root}
 use Rattle.lightest.proofs.Root.{root-below, root-least}
 use Rattle.replay_laws.proofs.Bounds.{answer-for-all}
@@ -30,19 +32,22 @@ mul-keeps-2 c = let s = c .before .before in omega (arith, few s, least-below s,
 element-copy-out-keeps-2 : tie.Need-element-copy-out-keeps-2
 element-copy-out-keeps-2 c = let s = c .before .before in omega (arith, few s, least-below s, c .before .lightest .ensures)
 
+-- the lightest part is no heavier than the heaviest, which is small
+least-small : (s : tie.Start) → at (s .args .parts .now) (root (s .args .tree .now)) < topSum
+least-small s = let w = s .pre .0 in omega (arith, root-least (s .args .depth) (w .lightest) _ (w .heaviest .inside), s .pre .1 .1 .1)
+
 keeps-requires : tie.Need-keeps-requires
 keeps-requires c κs =
     let s = c .before .before .before in
-    let w = s .pre .0 in
-    (s .pre .1 .0, (s .pre .1 .1 .1, rw (c .before .before .lightest .ensures) (omega (arith, root-least (s .args .depth) (w .lightest) _ (w .heaviest .inside), s .pre .1 .1 .1))))
+    (s .pre .1 .0, (s .pre .1 .1 .1, rw (← c .before .before .lightest .ensures) at (least-small s)))
 
 returns : tie.Need-returns
 returns c =
     let s = c .before .before .before .before in
     let w = s .pre .0 in
     ap not (c .keeps .ensures)
-    ∙ rw (c .before .before .before .lightest .ensures)
-    (sym (answer-for-all (s .args .depth) _ _ _ (w .heaviest .inside) (least-below s) (w .heaviest .top) (root-least (s .args .depth) (w .lightest))))
+    ∙ (rw (← c .before .before .before .lightest .ensures) at
+    (sym (answer-for-all (s .args .depth) (at (s .args .parts .now)) (s .args .tally .all) (s .args .tally .heaviest) (w .heaviest .inside) (least-below s) (w .heaviest .top) (root-least (s .args .depth) (w .lightest)))))
 
 pub broken-spec : {M : Type 1} → statement M
 broken-spec =
