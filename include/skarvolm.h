@@ -5,7 +5,7 @@
  * every result behind a pointer is 0 and every slice (a pointer and a length) is untouched. Every call ends, none allocates.
  *
  *   0  answered
- *   1  order over 30 (2D, or one axis) or over 21 (3D)
+ *   1  order over 32 (2D, or one axis) or over 21 (3D)
  *   2  a cell coordinate is 2^order or more
  *   3  a decoder's index is 4^order (2D) or 8^order (3D) or more
  *   4  no points: the x slice is empty
@@ -41,7 +41,7 @@
  *             weights[i] = 1;
  *         if (skarvolm_rcb_2d(4, 4, 2, weights, 16, splits, 3, ids, 16) == 0)
  *             printf("cell (3, 0) lies in part %u\n", ids[3]);
- *         printf("order 31 is refused: %u\n", skarvolm_encode_2d(0, 0, 31, &index));
+ *         printf("order 33 is refused: %u\n", skarvolm_encode_2d(0, 0, 33, &index));
  *         return 0;
  *     }
  */

@@ -1,7 +1,8 @@
 /* driver SEED COUNT: random requests to the static library, good and bad.
  *
- * Of a good request the library's answer is printed behind the request, for `oracle compare` to hold against coupe's. A bad
- * one is held here against the table of refusals, written out below a second time: its number, results 0, slices untouched.
+ * Of a good request the library's answer is printed behind the request, for `oracle compare` to hold against coupe's; at orders
+ * 31 and 32, where coupe's loses its top digits, it is held here against the rule, an index level by level. A bad one is held here
+ * against the table of refusals, written out below a second time: its number, results 0, slices untouched.
  * Decoders are held to give back the cell and the index. Every slice lies between guards. What is found is said on standard
  * error, with the first differences; the exit status is 1 where there is one. */
 #include "skarvolm.h"
@@ -12,9 +13,10 @@
 #include <string.h>
 
 enum { GUARD = 8, CELLS = 65536, POINTS = 512, NODES = 4095 };
+enum { TOP_2D = 32, TOP_3D = 21, TOP_OF_COUPE = 30 };
 
 static uint64_t state;
-static uint64_t refused, trips, sound, faults;
+static uint64_t refused, trips, levels, placed, sound, faults;
 
 static uint64_t draw(void) {
     uint64_t z = (state += 0x9e3779b97f4a7c15u);
@@ -78,10 +80,10 @@ static void narrow_kept(int k, size_t n, int whole) {
 static uint64_t coordinate(uint32_t order) {
     switch (below(8)) {
     case 0: return 0;
-    case 1: return order < 64 ? (UINT64_C(1) << order) - 1 : 0;
-    case 2: return order < 63 ? UINT64_C(1) << order : 0;
+    case 1: return order < 64 ? (UINT64_C(1) << order) - 1 : UINT64_MAX;
+    case 2: return order < 64 ? UINT64_C(1) << order : UINT64_MAX - 1;
     case 3: return draw();
-    default: return order < 64 ? below(UINT64_C(1) << order) : 0;
+    default: return order < 64 ? below(UINT64_C(1) << order) : draw();
     }
 }
 
@@ -92,18 +94,38 @@ static uint32_t some_order(uint32_t top) {
 
 static int over(uint64_t x, uint32_t order) { return x >> order != 0; }
 
+/* the index of a cell, level by level from the top: quadrant 2·(bit of x) + (bit of y), digits in base 4 */
+static uint64_t level_by_level(uint64_t x, uint64_t y, uint32_t order) {
+    static const uint8_t digit[4][4] = {{0, 1, 3, 2}, {0, 3, 1, 2}, {2, 3, 1, 0}, {2, 1, 3, 0}};
+    static const uint8_t next[4][4] = {{1, 0, 3, 0}, {0, 2, 1, 1}, {2, 1, 2, 3}, {3, 3, 0, 2}};
+    uint64_t index = 0;
+    for (uint32_t s = 0, k = order; k-- > 0;) {
+        uint32_t q = 2 * (x >> k & 1) + (y >> k & 1);
+        index = index << 2 | digit[s][q];
+        s = next[s][q];
+    }
+    return index;
+}
+
+/* an order of 2D: one in four, and more, is 31 or 32 */
+static uint32_t order_2d(void) { return below(4) ? some_order(TOP_2D) : TOP_OF_COUPE + 1 + (uint32_t)below(2); }
+
 static void encode_2d(void) {
-    uint32_t order = some_order(30);
-    uint64_t x = coordinate(order > 31 ? 31 : order), y = coordinate(order > 31 ? 31 : order), i = 77, u = 77, v = 77;
+    uint32_t order = order_2d(), o = order > TOP_2D ? TOP_2D : order;
+    uint64_t x = coordinate(o), y = coordinate(o), i = 77, u = 77, v = 77;
     uint32_t number = skarvolm_encode_2d(x, y, order, &i);
-    uint32_t should = order > 30 ? 1 : over(x, order) || over(y, order) ? 2 : 0;
+    uint32_t should = order > TOP_2D ? 1 : over(x, order) || over(y, order) ? 2 : 0;
     want("encode_2d's number", number, should);
     if (should) {
         want("encode_2d's index", i, 0);
         refused++;
         return;
     }
-    printf("encode2 %" PRIu64 " %" PRIu64 " %u = %" PRIu64 "\n", x, y, order, i);
+    if (order > TOP_OF_COUPE) {
+        want("encode_2d's index, level by level", i, level_by_level(x, y, order));
+        levels++;
+    } else
+        printf("encode2 %" PRIu64 " %" PRIu64 " %u = %" PRIu64 "\n", x, y, order, i);
     want("decode_2d's number", skarvolm_decode_2d(i, order, &u, &v), 0);
     want("decode_2d's x", u, x);
     want("decode_2d's y", v, y);
@@ -111,11 +133,11 @@ static void encode_2d(void) {
 }
 
 static void encode_3d(void) {
-    uint32_t order = some_order(21);
+    uint32_t order = some_order(TOP_3D);
     uint32_t o = order > 31 ? 31 : order;
     uint64_t x = coordinate(o), y = coordinate(o), z = coordinate(o), i = 77, u = 77, v = 77, w = 77;
     uint32_t number = skarvolm_encode_3d(x, y, z, order, &i);
-    uint32_t should = order > 21 ? 1 : over(x, order) || over(y, order) || over(z, order) ? 2 : 0;
+    uint32_t should = order > TOP_3D ? 1 : over(x, order) || over(y, order) || over(z, order) ? 2 : 0;
     want("encode_3d's number", number, should);
     if (should) {
         want("encode_3d's index", i, 0);
@@ -132,10 +154,10 @@ static void encode_3d(void) {
 
 /* an index first, good or bad */
 static void decode(int d) {
-    uint32_t top = d == 2 ? 30 : 21, order = some_order(top);
+    uint32_t top = d == 2 ? TOP_2D : TOP_3D, order = d == 2 ? order_2d() : some_order(top);
     uint64_t i = below(16) == 0 ? draw() : coordinate(order > top ? 63 : d * order), c[3] = {77, 77, 77}, back = 77;
     uint32_t number = d == 2 ? skarvolm_decode_2d(i, order, &c[0], &c[1]) : skarvolm_decode_3d(i, order, &c[0], &c[1], &c[2]);
-    uint32_t should = order > top ? 1 : i >> (d * order) != 0 ? 3 : 0;
+    uint32_t should = order > top ? 1 : d * order < 64 && i >> (d * order) != 0 ? 3 : 0;
     want("a decoder's number", number, should);
     if (should) {
         for (int k = 0; k < d; k++)
@@ -146,6 +168,10 @@ static void decode(int d) {
     want("an encoder's number", d == 2 ? skarvolm_encode_2d(c[0], c[1], order, &back) : skarvolm_encode_3d(c[0], c[1], c[2], order, &back), 0);
     want("the index again", back, i);
     trips++;
+    if (d == 2 && order > TOP_OF_COUPE) {
+        want("a decoded cell's index, level by level", level_by_level(c[0], c[1], order), i);
+        levels++;
+    }
 }
 
 static void deposit(void) {
@@ -179,11 +205,19 @@ static double odd_value(void) {
 static int unfit(double x) { return !(x >= -limit && x <= limit); }
 
 static uint32_t axis_number(double low, double high, uint32_t order) {
-    if (order > 30) return 1;
+    if (order > TOP_2D) return 1;
     if (unfit(low) || unfit(high)) return 6;
     if (low > high) return 8;
     double width = high - low;
     return width > 0 && width < thin ? 7 : 0;
+}
+
+/* the cell of a fit value by the rule: the factor is stepped down until its product with the width is below 2^order */
+static uint64_t cell_by_rule(double low, double high, uint32_t order, double value) {
+    double n = ldexp(1, (int)order), width = high - low, factor = n / width;
+    if (width == 0) return 0;
+    while (n <= width * factor) factor = nextafter(factor, 0);
+    return (uint64_t)(factor * (value - low));
 }
 
 static double width_above(double low) {
@@ -201,7 +235,7 @@ static double width_above(double low) {
 static void cell(void) {
     double low = below(50) ? some_value() : odd_value();
     double high = below(50) ? width_above(low) : odd_value();
-    uint32_t order = some_order(30);
+    uint32_t order = order_2d();
     double value;
     switch (below(8)) {
     case 0: value = low; break;
@@ -209,7 +243,7 @@ static void cell(void) {
     case 2: value = below(20) ? some_value() : odd_value(); break;
     case 3: value = nextafter(high, low); break;
     default: { /* on a border, or one f64 beside it */
-        uint32_t o = order > 30 ? 30 : order;
+        uint32_t o = order > TOP_2D ? TOP_2D : order;
         value = low + (high - low) * ((double)below(UINT64_C(1) << o) / ldexp(1, (int)o));
         if (below(3) == 0) value = nextafter(value, below(2) ? low : high);
     }
@@ -225,7 +259,11 @@ static void cell(void) {
         return;
     }
     if (c >> order) fault("a cell of 2^order or more", c, order);
-    printf("cell %" PRIu64 " %" PRIu64 " %u %" PRIu64 " = %" PRIu64 "\n", bits(low), bits(high), order, bits(value), c);
+    if (order > TOP_OF_COUPE) {
+        want("cell's cell, by the rule", c, cell_by_rule(low, high, order, value));
+        placed++;
+    } else
+        printf("cell %" PRIu64 " %" PRIu64 " %u %" PRIu64 " = %" PRIu64 "\n", bits(low), bits(high), order, bits(value), c);
 }
 
 /* POINTS: each index is the index of the cells on the axes from the lowest to the highest coordinate */
@@ -234,7 +272,7 @@ static double points[3][POINTS];
 
 static void index_all(int d) {
     size_t n = below(30) == 0 ? 0 : 1 + below(below(10) ? 20 : POINTS), len[3], room;
-    uint32_t top = d == 2 ? 30 : 21, order = some_order(top);
+    uint32_t top = d == 2 ? TOP_2D : TOP_3D, order = some_order(top);
     double around = some_value();
     int close = below(6) == 0, bad = below(12) == 0;
     for (int a = 0; a < d; a++)
@@ -360,6 +398,7 @@ int main(int argc, char **argv) {
             }
         }
     }
+    fprintf(stderr, "at orders 31 and 32, indices level by level: %" PRIu64 ", cells by the rule: %" PRIu64 "\n", levels, placed);
     fprintf(stderr, "refused as it should be: %" PRIu64 "; there and back: %" PRIu64 "; slices between guards: %" PRIu64 "; differences: %" PRIu64 "\n", refused, trips, sound, faults);
     return faults ? 1 : 0;
 }

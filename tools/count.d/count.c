@@ -127,8 +127,10 @@ static void draw_tight(const struct operation *o) {
  * drawn, rising or falling */
 static void draw_inputs(const struct operation *o) {
     for (int a = 0; a < 3; a++) {
-        for (int i = 0; i < INPUTS; i++)
-            numbers[a][i] = (draw() >> 1 | UINT64_C(1) << 62) >> (63 - o->bits);
+        for (int i = 0; i < INPUTS; i++) {
+            uint64_t highest_set = draw() | UINT64_C(1) << 63;
+            numbers[a][i] = o->bits ? highest_set >> (64 - o->bits) : 0;
+        }
         for (int i = 0; i < POINTS; i++)
             values[a][i] = (double)(draw() >> 11) * 0x1p-53 * 100 - 50;
     }
@@ -266,10 +268,12 @@ static const struct operation operations[] = {
     {"deposit-30", 30, INPUTS, 1, 0, {0}, run_deposit, "deposit of 30 bits"},
     {"encode_2d-12", 12, INPUTS, 1, 12, {0}, run_encode_2d, "encode_2d at order 12"},
     {"encode_2d-30", 30, INPUTS, 1, 30, {0}, run_encode_2d, "encode_2d at order 30"},
+    {"encode_2d-32", 32, INPUTS, 1, 32, {0}, run_encode_2d, "encode_2d at order 32"},
     {"encode_3d-12", 12, INPUTS, 1, 12, {0}, run_encode_3d, "encode_3d at order 12"},
     {"encode_3d-21", 21, INPUTS, 1, 21, {0}, run_encode_3d, "encode_3d at order 21"},
     {"decode_2d-12", 24, INPUTS, 1, 12, {0}, run_decode_2d, "decode_2d at order 12"},
     {"decode_2d-30", 60, INPUTS, 1, 30, {0}, run_decode_2d, "decode_2d at order 30"},
+    {"decode_2d-32", 64, INPUTS, 1, 32, {0}, run_decode_2d, "decode_2d at order 32"},
     {"decode_3d-12", 36, INPUTS, 1, 12, {0}, run_decode_3d, "decode_3d at order 12"},
     {"decode_3d-21", 63, INPUTS, 1, 21, {0}, run_decode_3d, "decode_3d at order 21"},
     {"cell-12", 0, INPUTS, 1, 12, {0}, run_cell, "cell at order 12"},

@@ -55,7 +55,7 @@ static uint64_t walk_3d(uint64_t x, uint64_t y, uint64_t z, uint32_t order) {
 
 uint32_t plain_encode_2d(uint64_t x, uint64_t y, uint32_t order, uint64_t *index) {
     *index = 0;
-    if (order > 30)
+    if (order > 32)
         return 1;
     if ((x | y) >> order)
         return 2;
@@ -77,9 +77,9 @@ uint32_t plain_decode_2d(uint64_t index, uint32_t order, uint64_t *x, uint64_t *
     uint64_t a = 0, b = 0;
     uint32_t state = 0;
     *x = *y = 0;
-    if (order > 30)
+    if (order > 32)
         return 1;
-    if (index >> (2 * order))
+    if (index >> order >> order)
         return 3;
     for (uint32_t level = order; level-- > 0;) {
         uint32_t step = back_2d[state][index >> (2 * level) & 3];
@@ -136,7 +136,7 @@ static uint64_t cell_on(struct axis axis, double value) { return (uint64_t)(int6
 
 uint32_t plain_cell(double low, double high, uint32_t order, double value, uint64_t *cell) {
     *cell = 0;
-    if (order > 30)
+    if (order > 32)
         return 1;
     if (unfit(low) || unfit(high))
         return 6;
@@ -169,7 +169,7 @@ static uint32_t extent(const double *values, size_t n, double *low, double *high
 uint32_t plain_index_2d(const double *xs, size_t xs_length, const double *ys, size_t ys_length, uint32_t order,
                         uint64_t *indices, size_t indices_length) {
     double low[2], high[2];
-    if (order > 30)
+    if (order > 32)
         return 1;
     if (xs_length == 0)
         return 4;
@@ -208,7 +208,7 @@ uint32_t plain_index_3d(const double *xs, size_t xs_length, const double *ys, si
 
 uint32_t plain_index_2d_in(double xlow, double xhigh, double ylow, double yhigh, const double *xs, size_t xs_length,
                            const double *ys, size_t ys_length, uint32_t order, uint64_t *indices, size_t indices_length) {
-    if (order > 30)
+    if (order > 32)
         return 1;
     if (xs_length == 0)
         return 4;

@@ -16,7 +16,7 @@ use crate::Refused;
 pub struct HilbertCurve {
     /// From 1 to 1,024.
     pub part_count: u32,
-    /// At most 30 in 2D and on one axis, at most 21 in 3D.
+    /// At most 32 in 2D and on one axis, at most 21 in 3D.
     pub order: u32,
 }
 

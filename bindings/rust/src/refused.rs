@@ -4,7 +4,7 @@ use std::fmt;
 #[derive(Clone, Copy, Debug, PartialEq, Eq, Hash)]
 #[repr(u32)]
 pub enum Refused {
-    /// Order over 30 (2D, or one axis) or over 21 (3D).
+    /// Order over 32 (2D, or one axis) or over 21 (3D).
     Order = 1,
     /// A cell coordinate is 2^order or more.
     Coordinate = 2,
@@ -65,7 +65,7 @@ impl Refused {
 impl fmt::Display for Refused {
     fn fmt(&self, f: &mut fmt::Formatter<'_>) -> fmt::Result {
         f.write_str(match self {
-            Refused::Order => "order over 30 (2D, or one axis) or over 21 (3D)",
+            Refused::Order => "order over 32 (2D, or one axis) or over 21 (3D)",
             Refused::Coordinate => "a cell coordinate is 2^order or more",
             Refused::Index => "a decoder's index is 4^order (2D) or 8^order (3D) or more",
             Refused::NoPoints => "no points: the x slice is empty",

@@ -31,6 +31,21 @@ fn a1_to_a7() {
 }
 
 #[test]
+fn orders_31_and_32() {
+    let last = (1 << 32) - 1;
+    let cases = [
+        (31, (1 << 30, 0), 4227378850225105578),
+        (32, (last, 0), u64::MAX),
+    ];
+    for (order, (x, y), index) in cases {
+        assert_eq!(of_order(order).encode_2d(x, y), Ok(index));
+        assert_eq!(of_order(order).decode_2d(index), Ok((x, y)));
+    }
+    assert_eq!(of_order(32).encode_2d(1 << 32, 0), Err(Refused::Coordinate));
+    assert_eq!(of_order(32).cell(0.0, 4.0, 4.0), Ok(last));
+}
+
+#[test]
 fn b1_and_b2() {
     for (order, (x, y, z), index) in [(1, (1, 1, 1), 5), (2, (3, 0, 0), 63)] {
         assert_eq!(
@@ -62,8 +77,8 @@ fn there_and_back_in_2d() {
             assert_eq!(of_order(order).encode_2d(x, y), Ok(index));
         }
     }
-    for order in 0..=30 {
-        let last = (1u64 << (2 * order)) - 1;
+    for order in 0..=32 {
+        let last = ((1u128 << (2 * order)) - 1) as u64;
         for index in [0, last / 3, last / 2, last - last / 7, last] {
             let (x, y) = of_order(order).decode_2d(index).unwrap();
             assert_eq!(of_order(order).encode_2d(x, y), Ok(index));
@@ -103,7 +118,7 @@ fn neighbours_on_the_curve_share_a_side() {
 fn refusals_of_encoders() {
     assert_eq!(of_order(30).encode_2d(1 << 30, 0), Err(Refused::Coordinate));
     assert_eq!(of_order(30).encode_2d(0, 1 << 30), Err(Refused::Coordinate));
-    assert_eq!(of_order(31).encode_2d(1 << 30, 0), Err(Refused::Order));
+    assert_eq!(of_order(33).encode_2d(1 << 30, 0), Err(Refused::Order));
     assert_eq!(of_order(u32::MAX).encode_2d(u64::MAX, 0), Err(Refused::Order));
     assert_eq!(of_order(21).encode_3d(0, 0, 1 << 21), Err(Refused::Coordinate));
     assert_eq!(of_order(22).encode_3d(0, 0, 1 << 22), Err(Refused::Order));
@@ -112,7 +127,8 @@ fn refusals_of_encoders() {
 #[test]
 fn refusals_of_decoders() {
     assert_eq!(of_order(30).decode_2d(1 << 60), Err(Refused::Index));
-    assert_eq!(of_order(31).decode_2d(0), Err(Refused::Order));
+    assert_eq!(of_order(31).decode_2d(1 << 62), Err(Refused::Index));
+    assert_eq!(of_order(33).decode_2d(0), Err(Refused::Order));
     assert_eq!(of_order(1).decode_3d(8), Err(Refused::Index));
     assert_eq!(of_order(22).decode_3d(0), Err(Refused::Order));
 }

@@ -24,7 +24,7 @@ fn a_flat_axis_has_cell_0() {
 #[test]
 fn refusals_of_cells() {
     let curve = of_order(2);
-    assert_eq!(of_order(31).cell(f64::NAN, 0.0, 0.0), Err(Refused::Order));
+    assert_eq!(of_order(33).cell(f64::NAN, 0.0, 0.0), Err(Refused::Order));
     assert_eq!(curve.cell(f64::NAN, 4.0, 0.0), Err(Refused::Value));
     assert_eq!(curve.cell(0.0, f64::INFINITY, 0.0), Err(Refused::Value));
     assert_eq!(curve.cell(0.0, 1_048_577.0, 0.0), Err(Refused::Value));
@@ -59,7 +59,7 @@ fn equal_points_have_index_0() {
 #[test]
 fn refusals_of_indices_in_2d() {
     let curve = HilbertCurve::default();
-    assert_eq!(of_order(31).index_2d(&[], &[]), Err(Refused::Order));
+    assert_eq!(of_order(33).index_2d(&[], &[]), Err(Refused::Order));
     assert_eq!(curve.index_2d(&[], &[1.0]), Err(Refused::NoPoints));
     assert_eq!(curve.index_2d(&[f64::NAN], &[]), Err(Refused::Lengths));
     assert_eq!(curve.index_2d(&[0.0, 1e-7], &[0.0, f64::NAN]), Err(Refused::Value));
@@ -128,7 +128,7 @@ fn on_the_points_own_ends_the_indices_are_the_same() {
 fn refusals_of_indices_on_given_axes_in_2d() {
     let curve = HilbertCurve::default();
     let (side, nan, reversed, thin) = ((0.0, 1.0), (0.0, f64::NAN), (1.0, 0.0), (0.0, 1e-7));
-    assert_eq!(of_order(31).index_2d_in(nan, side, &[], &[]), Err(Refused::Order));
+    assert_eq!(of_order(33).index_2d_in(nan, side, &[], &[]), Err(Refused::Order));
     assert_eq!(curve.index_2d_in(nan, side, &[], &[1.0]), Err(Refused::NoPoints));
     assert_eq!(curve.index_2d_in(nan, side, &[0.0], &[]), Err(Refused::Lengths));
     assert_eq!(curve.index_2d_in(reversed, nan, &[0.0], &[0.0]), Err(Refused::Value));

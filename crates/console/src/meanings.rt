@@ -24,7 +24,7 @@ fn write_text(fd: i32, number: u32, numbered: bool) -> bool {
         number,
         numbered,
         b"answered
-order over 30 (2D, or one axis) or over 21 (3D)
+order over 32 (2D, or one axis) or over 21 (3D)
 a cell coordinate is 2^order or more
 a decoder's index is 4^order (2D) or 8^order (3D) or more
 no points: the x slice is empty

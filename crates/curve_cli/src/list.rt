@@ -67,18 +67,19 @@ fn solid(line: &[u8], note: &[u8]) -> bool {
     false
 }
 
-// The largest index of an order, with the number that refuses a larger one.
+// The largest index of an order that is accepted, with the number that refuses a larger one. At order 32 in 2D the number of cells has no
+// bit left, and one less is the largest u64.
 fn limit_of(setting: Setting) -> Limit {
-    let refusal = rules::REFUSED_INDEX;
-    if setting.solid {
-        return Limit {
-            most: std::num::wrapping_sub_u64(1u64 << (setting.order % 22 * 3), 1),
-            refusal,
-        };
-    }
+    let order = setting.order % 64;
+    let square = (1u64 << order) << order;
+    let cells = if setting.solid {
+        square << order
+    } else {
+        square
+    };
     Limit {
-        most: std::num::wrapping_sub_u64(1u64 << (setting.order % 31 * 2), 1),
-        refusal,
+        most: std::num::wrapping_sub_u64(cells, 1),
+        refusal: rules::REFUSED_INDEX,
     }
 }
 

@@ -6,6 +6,7 @@ pub mod RoundTrip
 pub mod Refusals
 pub mod Answers
 pub mod NoTwoCellsShareAnIndex
+pub mod EveryIndexAt32
 pub mod Demand2
 pub mod Trips
 pub mod Turns

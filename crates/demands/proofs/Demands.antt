@@ -1,5 +1,5 @@
 -- The three demands, in the order of their text. Assumes nothing.
-use Prim.Native.Nat.{ℕ, _<_}
+use Prim.Native.Nat.{ℕ, _^_, _<_}
 use mathlib.Core.Path.{_≡_}
 use mathlib.Core.List.{List, [], _∷_}
 use lib.Ieee.{Float}
@@ -15,6 +15,7 @@ use Rattle.rules.specs.declared.Axis.the-variants.{Flat}
 use Rattle.laws.proofs.Exactly.{exactly, Refuses, refuses, untouched}
 use Rattle.laws.proofs.Readings.{read-coded, read-cell2, read-cell3, read-axis, read-cell}
 use Rattle.curve_laws.proofs.Demand2.{decode-encode-2d, encode-decode-2d, decode-encode-3d, encode-decode-3d}
+use Rattle.curve_laws.proofs.EveryIndexAt32.{every-index-at-32}
 use Rattle.halving_laws.proofs.Demand3.{demand-3-in-2d, demand-3-in-3d}
 
 -- DEMAND 1. "Any input gets an answer and every call ends. A public call tests its own input": each function of the crates is proved to
@@ -32,6 +33,10 @@ demand-1-encode-3d x y z order = rw read-coded (refuses _ _ _ 0 (exactly (encode
 pub demand-1-decode-2d : (index order : ℕ) → Refuses (decodeTests 2 top2 order index) (readCell2 (decode2 index order)) (0 ∷ 0 ∷ [])
 unfolding decode2 decodeTests
 demand-1-decode-2d index order = rw read-cell2 (refuses _ _ _ _ (exactly (decodeTests 2 top2 order index) tt))
+
+-- 02, 5/14: "At order 32 no index is off the curve, so refusal 3 can't come"
+pub demand-1-decode-2d-at-32 : (index : ℕ) → index < 2 ^ 64 → readCell2 (decode2 index 32) .number ≡ 0
+demand-1-decode-2d-at-32 = every-index-at-32
 
 pub demand-1-decode-3d : (index order : ℕ) → Refuses (decodeTests 3 top3 order index) (readCell3 (decode3 index order)) (0 ∷ 0 ∷ 0 ∷ [])
 unfolding decode3 decodeTests
@@ -79,7 +84,7 @@ demand-1-halving h ws splits ids =
     (exactly (halvingTests h ws splits ids) tt, λ l. (untouched _ _ splits l, untouched _ _ ids l))
 
 -- DEMAND 2. "Encoders, cell mapping and whole-weight RCB .. are proved equal to 01's rules": the contracts `r ≡ encode2 x y order` and so on.
--- "Decode after encode gives the cell, encode after decode the index", 2D orders 0 to 30, 3D orders 0 to 21:
+-- "Decode after encode gives the cell, encode after decode the index", 2D orders 0 to 32, 3D orders 0 to 21:
 
 pub demand-2-decode-encode-2d : DecodeEncode2
 demand-2-decode-encode-2d = decode-encode-2d

@@ -53,7 +53,7 @@ abbrev pub all : List Case → Bool
 all [] = true
 all (c ∷ cs) = holds c && all cs
 
--- A1 to A7, B1 and B2, G1 to G3; G3 in edition 2: every cell is a part of its own; G2 across x first; eight cells across z, x, y; and
+-- A1 to A7, orders 31 and 32, B1 and B2, G1 to G3; G3 in edition 2: every cell is a part of its own; G2 across x first; eight cells across z, x, y; and
 -- the order of 13, 14 and 9
 abbrev pub named : List Case
 named =
@@ -64,6 +64,9 @@ named =
     ∷ on2 7 0 127 5461
     ∷ on2 7 127 127 10922
     ∷ on2 30 (2 ^ 30 - 1) 0 1152921504606846975
+    ∷ on2 31 (2 ^ 30) 0 4227378850225105578
+    ∷ on2 32 (2 ^ 32 - 1) 0 18446744073709551615
+    ∷ on2 32 (2 ^ 32 - 1) (2 ^ 32 - 1) 12297829382473034410
     ∷ on3 1 1 1 1 5
     ∷ on3 2 3 0 0 63
     ∷ grid2 1 4 4 1 2 (replicate 16 1) (2 ∷ 2 ∷ 2 ∷ []) (0 ∷ 0 ∷ 1 ∷ 1 ∷ 0 ∷ 0 ∷ 1 ∷ 1 ∷ 2 ∷ 2 ∷ 3 ∷ 3 ∷ 2 ∷ 2 ∷ 3 ∷ 3 ∷ [])

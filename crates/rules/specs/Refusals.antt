@@ -27,7 +27,7 @@ use Rattle.rules.specs.declared.CellAnswer.the-variants as found
 
 -- the highest order in 2D and of an axis, and in 3D
 abbrev pub top2 : ℕ
-top2 = 30
+top2 = 32
 
 abbrev pub top3 : ℕ
 top3 = 21

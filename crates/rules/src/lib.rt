@@ -18,7 +18,7 @@ ghost use Rattle.rules.specs.Halving.{of2, of3};
 pub const DEFAULT_ORDER: u32 = 12;
 
 // The highest order in 2D, and of an axis.
-pub const TOP_ORDER_2D: u32 = 30;
+pub const TOP_ORDER_2D: u32 = 32;
 
 // The highest order in 3D.
 pub const TOP_ORDER_3D: u32 = 21;
