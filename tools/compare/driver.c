@@ -1,10 +1,12 @@
 /* driver SEED COUNT: random requests to the static library, good and bad.
  *
  * Of a good request the library's answer is printed behind the request, for `oracle compare` to hold against coupe's; at orders
- * 31 and 32, where coupe's loses its top digits, it is held here against the rule, an index level by level. A bad one is held here
- * against the table of refusals, written out below a second time: its number, results 0, slices untouched.
+ * 31 and 32, where coupe's loses its top digits, it is held here against the rules in plain C (tools/count.d/plain.c), an index
+ * level by level. A bad one is held here against the table of refusals, written out below a second time: its number, results 0,
+ * slices untouched.
  * Decoders are held to give back the cell and the index. Every slice lies between guards. What is found is said on standard
  * error, with the first differences; the exit status is 1 where there is one. */
+#include "plain.h"
 #include "skarvolm.h"
 #include <inttypes.h>
 #include <math.h>
@@ -94,16 +96,10 @@ static uint32_t some_order(uint32_t top) {
 
 static int over(uint64_t x, uint32_t order) { return x >> order != 0; }
 
-/* the index of a cell, level by level from the top: quadrant 2·(bit of x) + (bit of y), digits in base 4 */
+/* the index of a cell by the level-by-level machine */
 static uint64_t level_by_level(uint64_t x, uint64_t y, uint32_t order) {
-    static const uint8_t digit[4][4] = {{0, 1, 3, 2}, {0, 3, 1, 2}, {2, 3, 1, 0}, {2, 1, 3, 0}};
-    static const uint8_t next[4][4] = {{1, 0, 3, 0}, {0, 2, 1, 1}, {2, 1, 2, 3}, {3, 3, 0, 2}};
-    uint64_t index = 0;
-    for (uint32_t s = 0, k = order; k-- > 0;) {
-        uint32_t q = 2 * (x >> k & 1) + (y >> k & 1);
-        index = index << 2 | digit[s][q];
-        s = next[s][q];
-    }
+    uint64_t index;
+    plain_encode_2d(x, y, order, &index);
     return index;
 }
 
@@ -212,14 +208,6 @@ static uint32_t axis_number(double low, double high, uint32_t order) {
     return width > 0 && width < thin ? 7 : 0;
 }
 
-/* the cell of a fit value by the rule: the factor is stepped down until its product with the width is below 2^order */
-static uint64_t cell_by_rule(double low, double high, uint32_t order, double value) {
-    double n = ldexp(1, (int)order), width = high - low, factor = n / width;
-    if (width == 0) return 0;
-    while (n <= width * factor) factor = nextafter(factor, 0);
-    return (uint64_t)(factor * (value - low));
-}
-
 static double width_above(double low) {
     switch (below(8)) {
     case 0: return low;
@@ -260,7 +248,9 @@ static void cell(void) {
     }
     if (c >> order) fault("a cell of 2^order or more", c, order);
     if (order > TOP_OF_COUPE) {
-        want("cell's cell, by the rule", c, cell_by_rule(low, high, order, value));
+        uint64_t by_rule;
+        plain_cell(low, high, order, value, &by_rule);
+        want("cell's cell, by the rule", c, by_rule);
         placed++;
     } else
         printf("cell %" PRIu64 " %" PRIu64 " %u %" PRIu64 " = %" PRIu64 "\n", bits(low), bits(high), order, bits(value), c);
