@@ -35,7 +35,8 @@
  *         uint32_t splits[3], ids[16];
  *         if (skarvolm_encode_2d(127, 127, 7, &index) == 0)
  *             printf("cell (127, 127) at order 7 has index %llu\n", (unsigned long long)index);
- *         if (skarvolm_index_2d_in(10, 400, 1, 32, &focal, 1, &stop, 1, 12, &index, 1) == 0)
+ *         if (skarvolm_index_2d_in(10, 400, 1, 32, &focal, 1, &stop, 1,
+ *                                  SKARVOLM_DEFAULT_ORDER, &index, 1) == 0)
  *             printf("24 mm at f/2.8, of 10 to 400 mm and f/1 to f/32, has index %llu\n", (unsigned long long)index);
  *         for (int i = 0; i < 16; i++)
  *             weights[i] = 1;
@@ -54,6 +55,10 @@
 #ifdef __cplusplus
 extern "C" {
 #endif
+
+/* The order of the forms that name none, on the command line, in Rust and in Rattle; a call here names its order. Indices that were
+ * stored while it was 12 are of order 12. */
+#define SKARVOLM_DEFAULT_ORDER 16
 
 /* The source's bits, lowest first, laid onto the mask's set bits, lowest first. Never refused. */
 uint64_t skarvolm_deposit(uint64_t source, uint64_t mask);

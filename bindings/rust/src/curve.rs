@@ -21,11 +21,11 @@ pub struct HilbertCurve {
 }
 
 impl Default for HilbertCurve {
-    /// Two parts and order 12, as in coupe.
+    /// Two parts, as in coupe, and order 16, where coupe has 12.
     fn default() -> Self {
         Self {
             part_count: 2,
-            order: 12,
+            order: 16,
         }
     }
 }

@@ -62,11 +62,18 @@ fn b1_and_b2() {
 }
 
 #[test]
-fn default_order_is_12() {
+fn default_order_is_16() {
     let curve = HilbertCurve::default();
-    assert_eq!(curve.order, 12);
-    assert_eq!(curve.encode_2d(4095, 0), Ok((1 << 24) - 1));
-    assert_eq!(curve.encode_2d(4096, 0), Err(Refused::Coordinate));
+    assert_eq!(curve.order, 16);
+    assert_eq!(curve.encode_2d(65535, 0), Ok((1 << 32) - 1));
+    assert_eq!(curve.encode_2d(65536, 0), Err(Refused::Coordinate));
+    assert_eq!(curve.encode_3d(65535, 0, 0), Ok((1 << 48) - 1));
+}
+
+#[test]
+fn a_list_of_before_names_order_12() {
+    assert_eq!(of_order(12).decode_2d(5592405), Ok((0, 4095)));
+    assert_eq!(of_order(12).decode_3d(11998638790), Ok((1, 2, 4095)));
 }
 
 #[test]

@@ -21,6 +21,9 @@ pub struct Setting {
     pub solid: bool,
 }
 
+// The order of a list that says none: such lists were stored while it was the default.
+const ORDER_BEFORE: u32 = 12;
+
 // The places of the command's words for the order and the dimension.
 const ORDER: usize = 3;
 
@@ -45,15 +48,31 @@ fn contradicts(line: &[u8], note: &[u8]) -> bool {
     differs(word(line, DIMENSION), word(note, noted::DIMENSION))
 }
 
-// The order that the command names, or that the list says, or the default.
+// Whether neither the command nor the list says the order.
+fn unsaid(line: &[u8], note: &[u8]) -> bool {
+    if word(line, ORDER).len() != 0 {
+        return false;
+    }
+    !noted::known(note)
+}
+
+// The order that the command names, or that the list says, or that of lists that say none.
 fn order_of(line: &[u8], note: &[u8]) -> u32 {
+    if unsaid(line, note) {
+        return ORDER_BEFORE;
+    }
     if word(line, ORDER).len() != 0 {
         return number_of(word(line, ORDER));
     }
-    if noted::known(note) {
-        return number_of(word(note, noted::ORDER));
-    }
-    rules::DEFAULT_ORDER
+    number_of(word(note, noted::ORDER))
+}
+
+// Says at which order a list is read that says none.
+fn say_order(path: &[u8]) {
+    faults::of(
+        path,
+        b"says no order and is read at order 12, the default when such lists were stored; name another by 'order N'",
+    );
 }
 
 // Whether the command or the list says 3D.
@@ -145,6 +164,9 @@ fn decode_text(line: &[u8], text: &[u8], note: &[u8]) -> u8 {
     if contradicts(line, note) {
         faults::of(path, b"its first line says another order or dimension");
         return FAILED;
+    }
+    if unsaid(line, note) {
+        say_order(path);
     }
     let setting = Setting {
         order: order_of(line, note),

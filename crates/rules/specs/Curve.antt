@@ -135,7 +135,7 @@ decode3 index order =
 
 -- the order of a call that names none
 abbrev pub defaultOrder : ℕ
-defaultOrder = 12
+defaultOrder = 16
 
 -- THE DEPOSIT: the source's bits, lowest first, onto the mask's set bits, lowest first
 

@@ -15,7 +15,7 @@ ghost use mathlib.Core.Path.{_≡_};
 ghost use Rattle.rules.specs.Halving.{of2, of3};
 
 // The order of a call that names none.
-pub const DEFAULT_ORDER: u32 = 12;
+pub const DEFAULT_ORDER: u32 = 16;
 
 // The highest order in 2D, and of an axis.
 pub const TOP_ORDER_2D: u32 = 32;
