@@ -18,24 +18,9 @@ abbrev μ-loop : tie.MeasureT-loop
 loop-holds : tie.Need-loop-holds Inv-loop μ-loop
 loop-holds c = c .before .pre
 
-shared-slice-read-step : tie.Need-shared-slice-read-step Inv-loop μ-loop
-shared-slice-read-step c = search needs
-
-step-requires : tie.Need-step-requires Inv-loop μ-loop
-step-requires c κs = search needs
-
-add-i : tie.Need-add-i Inv-loop μ-loop
-add-i c = search needs
-
-loop-less : tie.Need-loop-less Inv-loop μ-loop
-loop-less c = search needs
-
 loop-again : tie.Need-loop-again Inv-loop μ-loop
 unfolding metTo
 loop-again c = (omega arith, rw add-one (c .step .ensures ∙ rw (c .before .before .before .loop .inv .1)))
-
-end-requires : tie.Need-end-requires Inv-loop μ-loop
-end-requires c κs = search needs
 
 returns : tie.Need-returns Inv-loop μ-loop
 returns c = let e : c .before .before .loop .i ≡ length (c .before .before .before .before .args .word .now) = omega arith in rw (c .end .ensures, c .before .before .loop .inv .1, e)
@@ -47,10 +32,10 @@ ended-spec =
     Inv-loop
     μ-loop
     loop-holds
-    shared-slice-read-step
-    step-requires
-    add-i
-    loop-less
+    (λ c. search needs)
+    (λ c κs. search needs)
+    (λ c. search needs)
+    (λ c. search needs)
     loop-again
-    end-requires
+    (λ c κs. search needs)
     returns)

@@ -21,12 +21,6 @@ loop-holds c = (refl, omega arith)
 mul-r : tie.Need-mul-r Inv-loop μ-loop
 mul-r c = let p = 5 ^ c .before .loop .i in let e : c .before .loop .r ≡ p = c .before .loop .inv .0 in let l : c .before .loop .i ≤ 21 = omega arith in let h : p ≤ 5 ^ 21 = pow-le-pow-right (zero-lt-suc 4) l in omega arith
 
-add-i : tie.Need-add-i Inv-loop μ-loop
-add-i c = search needs
-
-loop-less : tie.Need-loop-less Inv-loop μ-loop
-loop-less c = search needs
-
 loop-again : tie.Need-loop-again Inv-loop μ-loop
 loop-again c = (rw add-one (ap (λ (z : ℕ). 5 * z) (c .before .loop .inv .0) ∙ sym (pow-succ' 5 (c .before .loop .i))), omega arith)
 
@@ -41,7 +35,7 @@ power-of-five-spec =
     μ-loop
     loop-holds
     mul-r
-    add-i
-    loop-less
+    (λ c. search needs)
+    (λ c. search needs)
     loop-again
     returns)

@@ -50,7 +50,7 @@ add-id : tie.Need-add-id Inv-loop μ-loop
 add-id c = omega (arith, node-small (c .before .before .before .before .before .loop .inv) (c .before .before .before .before .loop-test .taken), c .before .before .before .before .before .loop .inv .small)
 
 add-axis : tie.Need-add-axis Inv-loop μ-loop
-add-axis c = omega (arith, c .before .before .before .before .before .loop .inv .axis, c .before .before .before .before .before .before .before .pre .1 .0 .few)
+add-axis c = let turn = c .before .before .before .before .before in omega (arith, turn .loop .inv .axis, turn .before .before .pre .1 .0 .few)
 
 rem-axis : tie.Need-rem-axis Inv-loop μ-loop
 rem-axis c = omega (arith, c .before .before .before .before .before .loop .inv .axis)

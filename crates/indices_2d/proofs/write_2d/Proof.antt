@@ -104,7 +104,7 @@ write-2d-spec =
     (λ c. search needs)
     (λ c. let i = c .before .before .before in point-read _ _ _ _ (start (i .before) .pre .1 .1 .0) _ (here i))
     (λ c κs. let i = c .before .before .before in point-accepted _ _ _ _ (start (i .before) .pre .1 .1 .0) _ (here i))
-    (λ c κs. c .before .before .before .before .before .before .before .table .ensures)
+    (λ c κs. let filled = c .before .before .before .before .before .before .before in filled .table .ensures)
     (λ c. search needs)
     (λ c. search needs)
     slice-write-indices

@@ -11,12 +11,6 @@ returns c = outside _ _ _ (c .if1 .taken)
 returns-2 : tie.Need-returns-2
 returns-2 c = too-much _ _ _ (c .before .if1 .left) (omega (arith, c .if2 .taken))
 
-mul-if3 : tie.Need-mul-if3
-mul-if3 c = search needs
-
-shared-slice-read-if3 : tie.Need-shared-slice-read-if3
-shared-slice-read-if3 c = search needs
-
 returns-3 : tie.Need-returns-3
 returns-3 c = too-much _ _ _ (c .before .before .before .if1 .left) (omega (arith, c .if3 .taken))
 
@@ -25,4 +19,4 @@ returns-4 c = taken _ _ _ (c .before .before .before .if1 .left) (omega (arith, 
 
 pub answer-spec : {M : Type 1} → statement M
 answer-spec =
-    tie.close (tie.spec returns returns-2 mul-if3 shared-slice-read-if3 returns-3 returns-4)
+    tie.close (tie.spec returns returns-2 (λ c. search needs) (λ c. search needs) returns-3 returns-4)

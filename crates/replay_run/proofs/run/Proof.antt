@@ -53,16 +53,16 @@ step-requires c κs =
     (w .holds, (entry turn .pre .0 .0, w .runs))
 
 mul-answers : tie.Need-mul-answers Inv-loop μ-loop
-mul-answers c = omega (arith, counts (turned (c .before .before .before .before .before .before)))
+mul-answers c = let after = c .before .before .before .before .before .before in omega (arith, counts (turned after))
 
 slice-write-answers : tie.Need-slice-write-answers Inv-loop μ-loop
-slice-write-answers c = let turn = turned (c .before .before .before .before .before .before) in omega (arith, below turn, turn .before .loop .inv .2)
+slice-write-answers c = let after = c .before .before .before .before .before .before in let turn = turned after in omega (arith, below turn, turn .before .loop .inv .2)
 
 add-i : tie.Need-add-i Inv-loop μ-loop
-add-i c = omega (arith, counts (turned (c .before .before .before .before .before .before .before)))
+add-i c = let after = c .before .before .before .before .before .before .before in omega (arith, counts (turned after))
 
 loop-less : tie.Need-loop-less Inv-loop μ-loop
-loop-less c = omega (arith, below (turned (c .before .before .before .before .before .before .before)))
+loop-less c = let after = c .before .before .before .before .before .before .before in omega (arith, below (turned after))
 
 loop-again : tie.Need-loop-again Inv-loop μ-loop
 loop-again c =

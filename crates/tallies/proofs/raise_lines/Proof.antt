@@ -23,12 +23,6 @@ loop-holds : tie.Need-loop-holds Inv-loop μ-loop
 unfolding linesWith top restOf
 loop-holds c = (search needs, refl, refl, search needs, refl)
 
-mul-side : tie.Need-mul-side Inv-loop μ-loop
-mul-side c = search needs
-
-shared-slice-read-side : tie.Need-shared-slice-read-side Inv-loop μ-loop
-shared-slice-read-side c = search needs
-
 -- at a turn: the axis, the place of the sum, and the sum itself, which is not raised yet
 module _ (c : tie.After-raise-arg Inv-loop μ-loop) where
   below : c .before .before .before .loop .a < length (c .before .before .before .before .before .args .sides .now)
@@ -65,17 +59,8 @@ raise-requires c κs =
       rw (found c, i .2, kept c) (q .1 .fits _ (below c)),
     )
 
-larger-requires : tie.Need-larger-requires Inv-loop μ-loop
-larger-requires c κs = search needs
-
 div-rest : tie.Need-div-rest Inv-loop μ-loop
 div-rest c = let d = c .before .before in let s = d .before .before .before .before .before in side-first (s .pre .0) (s .pre .1 .0) (s .args .amount) (s .args .lines .now) (below d)
-
-add-a : tie.Need-add-a Inv-loop μ-loop
-add-a c = search needs
-
-loop-less : tie.Need-loop-less Inv-loop μ-loop
-loop-less c = search needs
 
 loop-again : tie.Need-loop-again Inv-loop μ-loop
 loop-again c =
@@ -101,15 +86,15 @@ raise-lines-spec =
     Inv-loop
     μ-loop
     loop-holds
-    mul-side
-    shared-slice-read-side
+    (λ c. search needs)
+    (λ c. search needs)
     mul-raise
     rem-raise
     add-raise
     raise-requires
-    larger-requires
+    (λ c κs. search needs)
     div-rest
-    add-a
-    loop-less
+    (λ c. search needs)
+    (λ c. search needs)
     loop-again
     returns)
