@@ -21,15 +21,29 @@
 //! # Ok(())
 //! # }
 //! ```
+//!
+//! # coupe's names
+//!
+//! | coupe | here |
+//! |---|---|
+//! | `HilbertCurve { part_count, order }` | the same, both `u32` |
+//! | `HilbertCurve::default()`, order 12 | the same, order 16 |
+//! | `curve.partition(&mut ids, (points, weights))` | [`HilbertCurve::partition_points`], with whole weights, boxes along the axes and exact splits |
+//! | `Error` of a curve | [`Refused`] |
+//! | `Grid::new_2d(width, height)`, `Grid::new_3d(width, height, depth)` | the same, the sides `u32` |
+//! | `grid.rcb(&mut partition, weights, iter_count)` | the same, with ids and weights `u32` and `u64`; it returns the cuts |
+//! | a panic, an answer that means nothing | [`Refused`], and nothing is written |
 #![warn(missing_docs)]
 
 mod curve;
 mod grid;
+mod points;
 mod refused;
 mod sys;
 
 pub use curve::HilbertCurve;
 pub use grid::{Grid, Replayed, NOT_CUT};
+pub use points::Point;
 pub use refused::Refused;
 
 /// The bits of `source`, lowest first, laid onto the set bits of `mask`, lowest first. Never refused.

@@ -33,10 +33,7 @@ fn a1_to_a7() {
 #[test]
 fn orders_31_and_32() {
     let last = (1 << 32) - 1;
-    let cases = [
-        (31, (1 << 30, 0), 4227378850225105578),
-        (32, (last, 0), u64::MAX),
-    ];
+    let cases = [(31, (1 << 30, 0), 4227378850225105578), (32, (last, 0), u64::MAX)];
     for (order, (x, y), index) in cases {
         assert_eq!(of_order(order).encode_2d(x, y), Ok(index));
         assert_eq!(of_order(order).decode_2d(index), Ok((x, y)));

@@ -159,3 +159,23 @@ fn refusals_of_indices_on_given_axes_in_3d() {
     assert_eq!(of(side, &[1.5]), Err(Refused::Outside));
     assert_eq!(of(side, &[1.0]).map(|indices| indices.len()), Ok(1));
 }
+
+#[test]
+fn points_of_two_and_three_coordinates() {
+    let curve = of_order(5);
+    let flat = [[0.5, -3.0], [9.0, 4.0], [2.25, 0.0]];
+    let solid = [[0.5, -3.0, 1.0], [9.0, 4.0, 7.5], [2.25, 0.0, 3.0]];
+    let (xs, ys, zs) = ([0.5, 9.0, 2.25], [-3.0, 4.0, 0.0], [1.0, 7.5, 3.0]);
+    assert_eq!(curve.index_points(&flat), curve.index_2d(&xs, &ys));
+    assert_eq!(curve.index_points(&solid), curve.index_3d(&xs, &ys, &zs));
+    assert_eq!(curve.index_points::<[f64; 2]>(&[]), Err(Refused::NoPoints));
+    let (mut by_points, mut by_columns) = ([9; 3], [9; 3]);
+    let order = curve.partition_points(&mut by_points, &solid, &[1, 2, 3]);
+    assert_eq!(order, curve.partition_3d(&mut by_columns, &xs, &ys, &zs, &[1, 2, 3]));
+    assert_eq!(by_points, by_columns);
+    assert_eq!(
+        curve.partition_points(&mut by_points, &flat, &[1, 2]),
+        Err(Refused::Lengths)
+    );
+    assert_eq!(by_points, by_columns);
+}
