@@ -30,7 +30,7 @@ import ctypes
 from collections import namedtuple
 
 from . import _library
-from ._lent import F64, U32, U64, Lent, whole
+from ._lent import F64, U32, U64, Lent, joined, whole
 
 __all__ = [
     "DEFAULT_ORDER", "NOT_CUT", "REFUSALS", "Halved", "Parted", "Refused", "Replayed", "cell", "decode_2d", "decode_3d", "deposit",
@@ -236,8 +236,7 @@ def replay(weights, depth, cells, amounts, sides=None, first=1):
     """
     start, sides = _grid(weights, sides)
     before = Lent(start, U64)
-    after = Lent.made(before.length, U64)
-    memoryview(after.values).cast("B")[:] = memoryview(before.values).cast("B")
+    after = Lent.copied(before, U64)
     splits, ids = _made_by_halving(depth, before.length)
     numbers, added = Lent(cells, U64), Lent(amounts, U64)
     answers = Lent.made(numbers.length, U32)
@@ -264,7 +263,7 @@ def _grid(weights, sides):
     if sides is None:
         shape = getattr(weights, "shape", None) or _shape(weights)
         if len(shape) in (2, 3):
-            return weights if hasattr(weights, "shape") else _joined(weights, len(shape)), tuple(reversed(shape))
+            return weights if hasattr(weights, "shape") else joined(weights, len(shape)), tuple(reversed(shape))
         raise ValueError("weights: wanted rows, layers of rows, or sides beside one sequence")
     if len(sides) not in (2, 3):
         raise ValueError(f"sides: found {len(sides)}, wanted 2 or 3")
@@ -278,15 +277,6 @@ def _shape(nested):
         shape.append(len(nested))
         nested = nested[0] if nested else None
     return shape
-
-
-def _joined(nested, axes):
-    for _ in range(axes - 1):
-        lengths = {len(row) for row in nested}
-        if len(lengths) > 1:
-            raise ValueError(f"weights: found rows of {min(lengths)} and of {max(lengths)}, wanted one length")
-        nested = [value for row in nested for value in row]
-    return nested
 
 
 def _shaped(made, given):

@@ -31,6 +31,11 @@ class Lent:
         """So many zeros."""
         return cls(array.array(code, bytes(count * array.array(code).itemsize)), code)
 
+    @classmethod
+    def copied(cls, lent, code):
+        """The same numbers in memory of their own."""
+        return cls(_copy(memoryview(lent.values), code), code)
+
     def slice(self):
         """Address and length, as a call takes them."""
         return ctypes.addressof(self._first), self.length
@@ -51,16 +56,24 @@ def _as_memory(values, code):
     except TypeError:
         return array.array(code, values)
     if view.itemsize != size or view.format not in CODES[code]:
-        return array.array(code, _flat(getattr(values, "tolist", view.tolist)(), view.ndim))
+        return array.array(code, joined(getattr(values, "tolist", view.tolist)(), view.ndim))
     if view.c_contiguous and not view.readonly and _aligned(values, size):
         return values
+    return _copy(view, code)
+
+
+def _copy(view, code):
     copy = array.array(code)
     copy.frombytes(view.tobytes())
     return copy
 
 
-def _flat(nested, axes):
+def joined(nested, axes):
+    """The numbers of a list of lists, or of lists of those, in one list."""
     for _ in range(axes - 1):
+        lengths = {len(row) for row in nested}
+        if len(lengths) > 1:
+            raise ValueError(f"found rows of {min(lengths)} and of {max(lengths)}, wanted one length")
         nested = [value for row in nested for value in row]
     return nested
 

@@ -171,6 +171,22 @@ class Grids(unittest.TestCase):
         self.assertEqual(list(night.ids), [1, 1, 1, 2, 2, 3, 2, 2, 3])
         self.assertEqual(list(start), [0] * 9)
 
+    def test_no_cells(self):
+        grids = [([], (0, 1)), ([[]], None)] + ([(numpy.zeros((1, 0), numpy.uint64), None)] if numpy else [])
+        for weights, sides in grids:
+            for call in (lambda: skarvolm.halve(weights, 0, sides), lambda: skarvolm.replay(weights, 0, [], [], sides)):
+                with self.assertRaises(skarvolm.Refused) as raised:
+                    call()
+                self.assertEqual(raised.exception.number, 9)
+
+    @unittest.skipUnless(numpy, "there is no numpy")
+    def test_a_night_in_the_shape_of_an_array(self):
+        start = numpy.zeros((3, 3), numpy.uint64)
+        night = skarvolm.replay(start, 2, [0, 4, 8], [1, 1, 1])
+        self.assertEqual(night.weights.tolist(), [[1, 0, 0], [0, 1, 0], [0, 0, 1]])
+        self.assertEqual(night.ids.shape, (3, 3))
+        self.assertFalse(start.any())
+
     def test_parts_by_their_sentence(self):
         random.seed(2)
         for _ in range(50):
