@@ -56,8 +56,8 @@
 extern "C" {
 #endif
 
-/* The order of the forms that name none, on the command line, in Rust and in Rattle; a call here names its order. Indices that were
- * stored while it was 12 are of order 12. */
+/* The order of the forms that name none, on the command line, in Rust, in Python and in Rattle; a call here names its order. Indices
+ * that were stored while it was 12 are of order 12. */
 #define SKARVOLM_DEFAULT_ORDER 16
 
 /* The source's bits, lowest first, laid onto the mask's set bits, lowest first. Never refused. */

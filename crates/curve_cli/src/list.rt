@@ -69,10 +69,10 @@ fn order_of(line: &[u8], note: &[u8]) -> u32 {
 
 // Says at which order a list is read that says none.
 fn say_order(path: &[u8]) {
-    faults::of(
-        path,
-        b"says no order and is read at order 12, the default when such lists were stored; name another by 'order N'",
-    );
+    faults::begin(path);
+    faults::write(b" says no order and is read at order ");
+    faults::write_number(ORDER_BEFORE as usize);
+    faults::write(b", the default when such lists were stored; name another by 'order N'\n");
 }
 
 // Whether the command or the list says 3D.
