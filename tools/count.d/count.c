@@ -153,9 +153,18 @@ static void draw_inputs(const struct operation *o) {
 
 /* OPERATIONS: each calls a side's function so many times */
 
-static void run_deposit(const struct side *s, const struct operation *o, uint32_t calls) {
+static void deposit_on(const struct side *s, uint64_t mask, uint32_t calls) {
     for (uint32_t i = 0; i < calls; i++)
-        answers.wide[0][i % INPUTS] = s->deposit(numbers[0][i % INPUTS], 0xaaaaaaaaaaaaaaaau);
+        answers.wide[0][i % INPUTS] = s->deposit(numbers[0][i % INPUTS], mask);
+}
+
+static void run_deposit(const struct side *s, const struct operation *o, uint32_t calls) {
+    deposit_on(s, 0xaaaaaaaaaaaaaaaau, calls);
+}
+
+/* on a mask of 32 bits that no encoder uses */
+static void run_deposit_other(const struct side *s, const struct operation *o, uint32_t calls) {
+    deposit_on(s, 0x6666666666666666u, calls);
 }
 
 static void run_encode_2d(const struct side *s, const struct operation *o, uint32_t calls) {
@@ -266,6 +275,8 @@ static void run_night(const struct side *s, const struct operation *o, uint32_t 
 static const struct operation operations[] = {
     {"deposit-12", 12, INPUTS, 1, 0, {0}, run_deposit, "deposit of 12 bits"},
     {"deposit-30", 30, INPUTS, 1, 0, {0}, run_deposit, "deposit of 30 bits"},
+    {"deposit_other-12", 12, INPUTS, 1, 0, {0}, run_deposit_other, "deposit of 12 bits on another mask"},
+    {"deposit_other-30", 30, INPUTS, 1, 0, {0}, run_deposit_other, "deposit of 30 bits on another mask"},
     {"encode_2d-12", 12, INPUTS, 1, 12, {0}, run_encode_2d, "encode_2d at order 12"},
     {"encode_2d-30", 30, INPUTS, 1, 30, {0}, run_encode_2d, "encode_2d at order 30"},
     {"encode_2d-32", 32, INPUTS, 1, 32, {0}, run_encode_2d, "encode_2d at order 32"},

@@ -3,7 +3,7 @@
 use Prim.Native.Nat.{ℕ, zero, suc, _+_, _-_, _*_, _/_, _%_, _^_, _≤_, _<_}
 use mathlib.Core.Path.{_≡_, refl, sym, ap, ap₂, _∙_, subst}
 use native.Mathlib.Omega.{arith}
-use native.Mathlib.Nat.{zero-add, suc-add, add-zero, mul-one, one-mul, zero-mul, mul-assoc, mul-comm, add-mul, pow-suc, div-one, mul-zero, mod-lt, lt-of-lt-of-le, le-of-lt, mul-lt-mul-of-pos-right}
+use native.Mathlib.Nat.{zero-add, suc-add, add-zero, mul-one, one-mul, zero-mul, mul-assoc, mul-comm, add-mul, pow-suc, div-one, div-eq-of-lt, mul-zero, mod-lt, lt-of-lt-of-le, le-of-lt, mul-lt-mul-of-pos-right}
 use lib.Dec.{lit<}
 use lib.Arith.{digits-lt, digits-div, digits-mod}
 use lib.Bits.{bitAnd, bitOr, and-zero-l, and-block, and-shifted, or-disjoint}
@@ -26,7 +26,7 @@ skip (suc e) k s m =
     ∙ q
 
 -- products regrouped
-swap : (a b c : ℕ) → a * b * c ≡ a * c * b
+pub swap : (a b c : ℕ) → a * b * c ≡ a * c * b
 swap a b c = mul-assoc a b c ∙ ap (λ (n : ℕ). a * n) (mul-comm b c) ∙ sym (mul-assoc a c b)
 
 spaced : (a b e f : ℕ) → (a * 2 ^ f * 2 + b) * 2 ^ e ≡ a * 2 ^ (e + suc f) + b * 2 ^ e
@@ -37,10 +37,14 @@ spaced a b e f =
     ∙ mul-assoc a (2 ^ suc f) (2 ^ e)
     ∙ ap (λ (n : ℕ). a * n) (mul-comm (2 ^ suc f) (2 ^ e) ∙ sym (pow-add 2 e (suc f))))
 
+-- the lowest n runs of w bits of s, d places apart
+unfoldable pub runs : ℕ → ℕ → ℕ → ℕ → ℕ
+runs d w zero s = 0
+runs d w (suc n) s = runs d w n (s / 2 ^ w) * 2 ^ d + s % 2 ^ w
+
 -- the lowest n bits of s, d places apart
-pub stretch : ℕ → ℕ → ℕ → ℕ
-stretch d zero s = 0
-stretch d (suc n) s = stretch d n (s / 2) * 2 ^ d + s % 2
+abbrev pub stretch : ℕ → ℕ → ℕ → ℕ
+stretch d n s = runs d 1 n s
 
 -- n set bits, d places apart, the first at place e, below the mask t
 abbrev pub comb : ℕ → ℕ → ℕ → ℕ → ℕ
@@ -66,14 +70,15 @@ one-block d e k s m h =
     ∙ spaced (spread k (s / 2) m) (s % 2) e f
     ∙ ap (λ (n : ℕ). spread k (s / 2) m * 2 ^ n + s % 2 * 2 ^ e) (sym p)
 
-on-comb : (d e n k t s : ℕ) → e < d → s < 2 ^ n → spread (room d n k) s (comb d e n t) ≡ stretch d n s * 2 ^ e
-unfolding stretch
-on-comb d e zero k t s h l =
-    let z : s ≡ 0 = omega arith in
-    ap (λ (x : ℕ). spread k x t) z ∙ spread-zero k t ∙ sym (zero-mul (2 ^ e))
+-- the deposit onto a comb, where the mask below which it stands takes nothing of what is left of the source
+pub on-comb : (d e n k t s : ℕ) → e < d → spread k (s / 2 ^ n) t ≡ 0 → spread (room d n k) s (comb d e n t) ≡ stretch d n s * 2 ^ e
+unfolding runs
+on-comb d e zero k t s h l = ap (λ (x : ℕ). spread k x t) (sym (div-one s)) ∙ l ∙ sym (zero-mul (2 ^ e))
 on-comb d e (suc n) k t s h l =
+    let p : 1 + n ≡ suc n = omega arith in
+    let left : s / 2 / 2 ^ n ≡ s / 2 ^ suc n = shr-shr s 1 n ∙ ap (λ (m : ℕ). s / 2 ^ m) p in
     one-block d e (room d n k) s (comb d e n t) h
-    ∙ ap (λ (x : ℕ). x * 2 ^ d + s % 2 * 2 ^ e) (on-comb d e n k t (s / 2) h (omega (arith, pow-suc 2 n)))
+    ∙ ap (λ (x : ℕ). x * 2 ^ d + s % 2 * 2 ^ e) (on-comb d e n k t (s / 2) h (ap (λ (x : ℕ). spread k x t) left ∙ l))
     ∙ ap (λ (x : ℕ). x + s % 2 * 2 ^ e) (swap (stretch d n (s / 2)) (2 ^ e) (2 ^ d))
     ∙ sym (add-mul (stretch d n (s / 2) * 2 ^ d) (s % 2) (2 ^ e))
 
@@ -92,7 +97,7 @@ deposited d e n k t o s h l q =
     let p : n ≡ o + r = omega arith in
     ap (λ (m : ℕ). spread (room d m k) s (comb d e m t)) p
     ∙ ap₂ (λ (m w : ℕ). spread m s w) (room-split d o r k) (comb-split d e o r t)
-    ∙ on-comb d e o (room d r k) (comb d e r t) s h q
+    ∙ on-comb d e o (room d r k) (comb d e r t) s h (ap (λ (x : ℕ). spread (room d r k) x (comb d e r t)) (div-eq-of-lt q) ∙ spread-zero (room d r k) (comb d e r t))
 
 -- the sum over the axes
 pub mix : ℕ → ℕ → ℕ → (ℕ → ℕ) → ℕ
@@ -100,7 +105,7 @@ mix zero d n c = 0
 mix (suc e) d n c = stretch d n (c e) * 2 ^ e + mix e d n c
 
 mix-down : (e d n : ℕ) (c : ℕ → ℕ) → mix e d (suc n) c ≡ mix e d n (λ e. c e / 2) * 2 ^ d + quadrant e 0 c
-unfolding mix stretch
+unfolding mix runs
 mix-down zero d n c = omega arith
 mix-down (suc e) d n c =
     let S : ℕ = stretch d n (c e / 2) in
@@ -129,7 +134,7 @@ mix-level d (suc n) (suc k) c h =
     ∙ quadrant-down d k c
 
 mix-none : (e d : ℕ) (c : ℕ → ℕ) → mix e d 0 c ≡ 0
-unfolding mix stretch
+unfolding mix runs
 mix-none zero d c = refl
 mix-none (suc e) d c = omega (arith, zero-mul (2 ^ e), mix-none e d c)
 
@@ -143,7 +148,7 @@ mix-lt d (suc n) c =
 
 -- the axes' bits do not meet, so that `bitOr` adds them up
 no-bit-in-common : (e d n s : ℕ) (c : ℕ → ℕ) → e < d → bitAnd (stretch d n s * 2 ^ e) (mix e d n c) ≡ 0
-unfolding stretch
+unfolding runs
 no-bit-in-common e d zero s c h = ap (λ (x : ℕ). bitAnd x (mix e d 0 c)) (zero-mul (2 ^ e)) ∙ and-zero-l (mix e d 0 c)
 no-bit-in-common e d (suc n) s c h =
     let S : ℕ = stretch d n (s / 2) in

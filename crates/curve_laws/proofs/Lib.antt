@@ -13,6 +13,8 @@ pub mod Turns
 pub mod Groups
 pub mod Spread
 pub mod Interleave
+pub mod SpreadInSteps
+pub mod OntoCombs
 pub mod Shifts
 pub mod DecodeTurn
 pub mod Tabulated

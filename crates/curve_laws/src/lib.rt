@@ -11,5 +11,7 @@
 //   Tabulated                the encoder's table of six levels at once: its entries by their rule (specs/Ruled), which leaves no second table
 //   Shifts                   what the code's shifts say of a side and of an index
 //   Spread, Interleave       one turn of the deposit, and the deposits of a cell's coordinates side by side
+//   SpreadInSteps            runs of bits halved by a shift and a mask, until the bits stand alone
+//   OntoCombs                the deposit onto a comb: bits that stand alone, shifted to its first tooth
 //
 // Parts (bits and levels of a number), All (a test of every number below n) and Or (`bitOr` is associative) serve these.

@@ -1,2 +1,4 @@
+pub mod Masks
+pub mod Repeats
 pub mod Zorder
 pub mod Once

@@ -1,69 +1,55 @@
--- `deposit` meets its contract: no step changes what the deposit comes to, and with no bits left of the source or of the mask that is what is
--- placed. Assumes nothing.
-use Prim.Native.Nat.{ℕ}
-use mathlib.Core.Path.{_≡_, _∙_, ap, sym}
+-- `deposit` meets its contract: where a mask differs from itself in six bits alone it is the one that repeats them, no bits or a mask of the
+-- z-order; on any other the bits are placed one after the other. Assumes nothing.
+use Prim.Native.Nat.{ℕ, _*_, _%_, _^_, _<_}
+use mathlib.Core.Path.{_≡_, sym, ap, _∙_}
 use native.Mathlib.Omega.{arith}
 use borrow.Author.Needs.{needs}
-use lib.Bits.{bitOr, or-zero-r}
-use Rattle.rules.specs.Curve.{spread, depositOf}
-use Rattle.curve_laws.proofs.Spread.{spread-none, spread-zero}
-use Rattle.spread.specs.Depositing.{comesTo}
-use Rattle.spread.specs.declared.Depositing.{Depositing}
+use lib.Bits.{bitXor}
+use lib.Dec.{lit<}
+use Rattle.rules.specs.Curve.{depositOf}
+use Rattle.curve_laws.proofs.Spread.{spread-none}
+use Rattle.spread.proofs.Masks.{x-of-2, y-of-3, x-of-3}
+use Rattle.spread.proofs.Repeats.{repeated, repeats}
 use Rattle.spread.proofs.deposit.Statement.{statement}
 use Rattle.spread.proofs.deposit.Tie as tie
 
-abbrev Inv-loop : tie.InvT-loop
-Inv-loop source mask d₀ d = comesTo d ≡ depositOf source mask
+-- where the mask repeats the six bits of the arm
+told : {r : ℕ} (s m six : ℕ) → m < 2 ^ 64 → bitXor m (m * 2 ^ 6 % 2 ^ 64) ≡ six → six < 2 ^ 6 → r ≡ depositOf s (repeated 10 six)
+    → r ≡ depositOf s m
+told s m six h e l p = p ∙ ap (depositOf s) (sym (repeats m six h e l))
 
-abbrev μ-loop : tie.MeasureT-loop
-μ-loop source mask d₀ d = d .srcbit
+returns : tie.Need-returns
+returns c = told _ (c .before .args .mask) 0 (omega arith) (omega arith) (lit< tt) (sym (spread-none 64 _))
 
-loop-holds : tie.Need-loop-holds Inv-loop μ-loop
-unfolding comesTo
-loop-holds c = search needs
+returns-2 : tie.Need-returns-2
+returns-2 c = told _ (c .before .before .args .mask) 0b010101 (omega arith) (omega arith) (lit< tt) (c .spread-2d .ensures)
 
--- where nothing is left to place
-all-placed : (d : Depositing) → spread 64 (d .srcbit) (d .bitmask) ≡ 0 → d .result ≡ comesTo d
-unfolding comesTo
-all-placed d e = sym (ap (bitOr (d .result)) e ∙ or-zero-r (d .result))
+returns-3 : tie.Need-returns-3
+returns-3 c = told _ (c .before .before .args .mask) 0b101010 (omega arith) (omega arith) (lit< tt) (x-of-2 _ (c .spread-2d2 .ensures))
 
-returns : tie.Need-returns Inv-loop μ-loop
-returns c =
-    let at = c .before .before .before .before .loop in
-    all-placed (at .d) (ap (spread 64 (at .d .srcbit)) (c .if2 .taken) ∙ spread-none 64 (at .d .srcbit)) ∙ at .inv
+returns-4 : tie.Need-returns-4
+returns-4 c = told _ (c .before .before .args .mask) 0b001001 (omega arith) (omega arith) (lit< tt) (c .spread-3d .ensures)
 
-loop-less : tie.Need-loop-less Inv-loop μ-loop
-loop-less c =
-    let third = c .before in
-    let second = third .before in
-    let first = second .before in
-    omega (arith, c .place4 .ensures .1, third .place3 .ensures .1, second .place2 .ensures .1, first .place .ensures .1)
+returns-5 : tie.Need-returns-5
+returns-5 c = told _ (c .before .before .args .mask) 0b010010 (omega arith) (omega arith) (lit< tt) (y-of-3 _ (c .spread-3d2 .ensures))
 
-loop-again : tie.Need-loop-again Inv-loop μ-loop
-loop-again c =
-    let third = c .before in
-    let second = third .before in
-    let first = second .before in
-    c .place4 .ensures .0 ∙ third .place3 .ensures .0 ∙ second .place2 .ensures .0 ∙ first .place .ensures .0
-    ∙ first .before .before .before .before .before .loop .inv
-
-returns-2 : tie.Need-returns-2 Inv-loop μ-loop
-returns-2 c =
-    let at = c .before .before .loop in
-    all-placed (at .d) (ap (λ (n : ℕ). spread 64 n (at .d .bitmask)) (c .if1 .left) ∙ spread-zero 64 (at .d .bitmask)) ∙ at .inv
+returns-6 : tie.Need-returns-6
+returns-6 c = told _ (c .before .before .args .mask) 0b100100 (omega arith) (omega arith) (lit< tt) (x-of-3 _ (c .spread-3d3 .ensures))
 
 pub deposit-spec : {M : Type 1} → statement M
 deposit-spec =
     tie.close
     (tie.spec
-    Inv-loop
-    μ-loop
-    loop-holds
+    (λ c κs. search needs)
+    (λ c κs. search needs)
+    (λ c κs. search needs)
+    (λ c κs. search needs)
+    (λ c κs. search needs)
+    (λ c κs. search needs)
     returns
-    (λ c κs. search needs)
-    (λ c κs. search needs)
-    (λ c κs. search needs)
-    (λ c κs. search needs)
-    loop-less
-    loop-again
-    returns-2)
+    returns-2
+    returns-3
+    returns-4
+    returns-5
+    returns-6
+    (λ c. search needs))
