@@ -6,6 +6,8 @@ use crate::spots::ROOM;
 use crate::spots::WIDTH;
 use crate::spots::x_of;
 use crate::spots::y_of;
+use drawing::ends;
+use drawing::ends::Place;
 
 // How wide a dot is.
 fn dot(n: usize) -> u64 {
@@ -85,70 +87,21 @@ fn put_shared(buffer: &mut [u8; 4096], at: usize, n: usize, knots: &[u64; 65536]
     printing::bytes(buffer, d, b"</g>\n")
 }
 
-// Puts a shape around a knot.
-fn put_shape(buffer: &mut [u8; 4096], at: usize, knot: u64, shape: &[u8]) -> usize {
-    let a = printing::bytes(buffer, at, b"<path stroke='black' stroke-width='14' d='M");
-    let b = paths::put_spot(buffer, a, knot);
-    let c = printing::bytes(buffer, b, shape);
-    printing::bytes(buffer, c, b"'/>\n")
+// Where a knot is.
+fn place_of(knot: u64) -> Place {
+    Place {
+        x: x_of(knot),
+        y: y_of(knot),
+    }
 }
 
-// Puts where a knot's name begins, or ends in the right half of the picture.
-fn put_beside(buffer: &mut [u8; 4096], at: usize, x: u64) -> usize {
-    if x < ROOM + WIDTH / 2 {
-        return printing::number(buffer, at, std::num::wrapping_add_u64(x, 160));
-    }
-    let a = printing::number(buffer, at, std::num::wrapping_sub_u64(x, 160));
-    printing::bytes(buffer, a, b"' text-anchor='end")
-}
-
-// Puts a name beside a spot.
-fn put_name(buffer: &mut [u8; 4096], at: usize, x: u64, y: u64, name: &[u8]) -> usize {
-    let a = printing::bytes(buffer, at, b"<text x='");
-    let b = put_beside(buffer, a, x);
-    let c = printing::bytes(buffer, b, b"' y='");
-    let d = printing::number(buffer, c, std::num::wrapping_add_u64(y, 45));
-    let e = printing::bytes(
-        buffer,
-        d,
-        b"' font-size='130' fill='black' stroke='white' stroke-width='40' paint-order='stroke'>",
-    );
-    let f = printing::bytes(buffer, e, name);
-    printing::bytes(buffer, f, b"</text>\n")
-}
-
-// Whether two numbers are less than so much apart.
-fn near(a: u64, b: u64, apart: u64) -> bool {
-    if std::num::wrapping_add_u64(a, apart) <= b {
-        return false;
-    }
-    a < std::num::wrapping_add_u64(b, apart)
-}
-
-// How high the last knot's name stands: at its knot, or a line nearer to the middle where that of the first is near.
-fn height(first: u64, last: u64) -> u64 {
-    let y = y_of(last);
-    if !near(x_of(first), x_of(last), 1200) {
-        return y;
-    }
-    if !near(y_of(first), y, 160) {
-        return y;
-    }
-    if y < ROOM + HEIGHT / 2 {
-        return std::num::wrapping_add_u64(y_of(first), 160);
-    }
-    std::num::wrapping_sub_u64(y_of(first), 160)
-}
-
-// Puts a square around the first knot and a diamond around the last, with their names.
+// Puts marks on the first and the last of n knots.
 fn put_ends(buffer: &mut [u8; 4096], at: usize, n: usize, first: u64, last: u64) -> usize {
-    let a = put_shape(buffer, at, first, b"m-80-80h160v160h-160z");
-    let b = put_shape(buffer, a, last, b"m0-130l130 130l-130 130l-130-130z");
-    if n == 1 {
-        return put_name(buffer, b, x_of(first), y_of(first), b"first and last");
-    }
-    let c = put_name(buffer, b, x_of(first), y_of(first), b"first");
-    put_name(buffer, c, x_of(last), height(first, last), b"last")
+    let middle = Place {
+        x: ROOM + WIDTH / 2,
+        y: ROOM + HEIGHT / 2,
+    };
+    ends::put(buffer, at, n == 1, place_of(first), place_of(last), middle)
 }
 
 // Puts all marks, dots above the rings, so that no ring hides a knot near it.

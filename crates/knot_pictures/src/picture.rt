@@ -5,31 +5,15 @@ use crate::frame;
 use crate::legend;
 use crate::marks;
 use crate::titles;
+use drawing::titles::put_head;
 use words::status::of_output;
 
-// Puts how wide the picture is.
-fn put_width(buffer: &mut [u8; 4096], at: usize, line: &[u8]) -> usize {
+// How wide the picture is.
+fn width(line: &[u8]) -> u64 {
     if asked::parts(line) {
-        return printing::bytes(buffer, at, b"1200");
+        return 1200;
     }
-    printing::bytes(buffer, at, b"1060")
-}
-
-// Puts the head of the picture, and its ground.
-fn put_head(buffer: &mut [u8; 4096], line: &[u8]) -> usize {
-    let a = printing::bytes(
-        buffer,
-        0,
-        b"<svg xmlns='http://www.w3.org/2000/svg' width='",
-    );
-    let b = put_width(buffer, a, line);
-    let c = printing::bytes(buffer, b, b"' height='900' viewBox='0 0 ");
-    let d = put_width(buffer, c, line);
-    printing::bytes(
-        buffer,
-        d,
-        b" 900' font-family='sans-serif' font-size='13'>\n<rect width='100%' height='100%' fill='white'/>\n",
-    )
+    1060
 }
 
 // Prints the picture of n knots with so many coordinates.
@@ -45,7 +29,7 @@ pub(crate) fn print(
 ) -> u8 {
     let mut buffer = [0u8; 4096];
     let order = knot_files::asked::order(line);
-    let a = put_head(&mut buffer, line);
+    let a = put_head(&mut buffer, 0, width(line), 900);
     let b = titles::put(&mut buffer, a, line, n, count, knots);
     let c = legend::put(&mut buffer, b, line, table);
     let d = frame::put(&mut buffer, c, order, axes, ends, labels);

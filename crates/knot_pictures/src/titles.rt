@@ -1,38 +1,8 @@
 // What the picture is, above it: the file, how many knots, dimension, order, parts, and how many share a cell.
 use crate::asked;
 use crate::spots;
-use console::lines::part;
-use drawing::texts::put_text;
-use words::same;
-
-// A path's name behind the folders.
-fn base(path: &[u8]) -> &[u8] {
-    let mut start: usize = 0;
-    for i in 0..path.len() {
-        if path[i] == b'/' {
-            start = std::num::wrapping_add_usize(i, 1);
-        }
-    }
-    part(path, start, path.len())
-}
-
-// Puts the name of a file.
-fn put_file(buffer: &mut [u8; 4096], at: usize, path: &[u8]) -> usize {
-    if same(path, b"-") {
-        return printing::bytes(buffer, at, b"standard input");
-    }
-    put_text(buffer, at, base(path), 40)
-}
-
-// Puts how many there are of what has this name.
-fn put_count(buffer: &mut [u8; 4096], at: usize, n: u64, name: &[u8]) -> usize {
-    let a = printing::number(buffer, at, n);
-    let b = printing::bytes(buffer, a, name);
-    if n == 1 {
-        return b;
-    }
-    printing::byte(buffer, b, b's')
-}
+use drawing::titles::put_count;
+use drawing::titles::put_file;
 
 // Puts how many parts there are, where they are asked for.
 fn put_parts(buffer: &mut [u8; 4096], at: usize, line: &[u8]) -> usize {
@@ -50,7 +20,7 @@ fn put_title(buffer: &mut [u8; 4096], at: usize, line: &[u8], n: usize, count: u
         at,
         b"<text x='115' y='34' font-size='18' font-weight='bold'>",
     );
-    let b = put_file(buffer, a, knot_files::asked::path(line));
+    let b = put_file(buffer, a, knot_files::asked::path(line), 40);
     let c = printing::bytes(buffer, b, b": ");
     let d = put_count(buffer, c, n as u64, b" knot");
     let e = printing::bytes(buffer, d, b" in ");

@@ -1,8 +1,8 @@
 -- The loop counts up to its end, and every place that it touches is tested to be there.
 use Prim.Native.Nat.{_-_}
 use borrow.Author.Needs.{needs}
-use Rattle.knot_pictures.proofs.titles.base.Statement.{statement}
-use Rattle.knot_pictures.proofs.titles.base.Tie as tie
+use Rattle.drawing.proofs.titles.base.Statement.{statement}
+use Rattle.drawing.proofs.titles.base.Tie as tie
 
 abbrev Inv-loop : tie.InvT-loop
 Inv-loop path start₀ i₀ i-end start i = Unit {0}
