@@ -1,5 +1,6 @@
 // The shape of a grid: its cells, the width of a line, the height of a layer and how many layers; and what parts the weights of a line.
 use whole_files::grid::Grid;
+ghost use Prim.Native.Nat.{_≤_};
 
 pub struct Shape {
     pub cells: usize,
@@ -37,4 +38,17 @@ pub fn nodes_of(depth: u32) -> usize
         return 0;
     }
     (1usize << depth) - 1
+}
+
+// The product of two numbers of at most 65,536; 0 of larger ones.
+pub fn product(a: u64, b: u64) -> u64
+    ensures { λ r. ⌜ r ≤ 4294967296 ⌝ }
+{
+    if 65536 < a {
+        return 0;
+    }
+    if 65536 < b {
+        return 0;
+    }
+    a * b
 }

@@ -95,7 +95,7 @@ fn show(
     let shown = place(line, 4, b"splits\npicture\n");
     match shown {
         0 => splits::print(splits, nodes_of(depth)),
-        1 => draw(shape, depth, weights, ids),
+        1 => draw(word(line, 2), b"", shape, depth, weights, ids),
         _ => listing::print(shape, false, weights, ids),
     }
 }

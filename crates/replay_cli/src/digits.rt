@@ -1,18 +1,5 @@
 // Whole numbers of up to 48 digits, one a place, the lowest first: the sides of the bounds have up to 43.
-ghost use Prim.Native.Nat.{_≤_};
-
-// The product of two numbers of at most 65,536; 0 of larger ones.
-pub(crate) fn product(a: u64, b: u64) -> u64
-    ensures { λ r. ⌜ r ≤ 4294967296 ⌝ }
-{
-    if 65536 < a {
-        return 0;
-    }
-    if 65536 < b {
-        return 0;
-    }
-    a * b
-}
+use grid_files::shape::product;
 
 // The digits of n.
 fn set(digits: &mut [u64; 48], n: u64) {

@@ -1,7 +1,6 @@
 // Events out of the lines of a trace: the cell and the amount of each, and where its line starts.
 //
 // A line has the number of a cell and an amount, or the coordinates of a cell and an amount; which, the first line of numbers says.
-use crate::digits::product;
 use console::faults::EVENT;
 use console::faults::MANY;
 use console::faults::RAGGED;
@@ -11,6 +10,7 @@ use console::lines::field_of;
 use console::lines::fields_on;
 use console::lines::line_end;
 use grid_files::shape::Shape;
+use grid_files::shape::product;
 use knot_files::layout::Layout;
 use whole_files::row;
 use whole_files::row::Limit;

@@ -165,7 +165,14 @@ fn show(
         0 => answers::print(text, layout, n, starts, answers),
         1 => listing::print(shape, true, weights, ids),
         2 => summary::print(shape, asked::depth(line), n, weights, answers, ids),
-        3 => draw(shape, asked::depth(line), weights, ids),
+        3 => draw(
+            asked::grid(line),
+            asked::trace(line),
+            shape,
+            asked::depth(line),
+            weights,
+            ids,
+        ),
         _ => listing::print(shape, false, weights, ids),
     }
 }

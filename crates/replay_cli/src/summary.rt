@@ -1,19 +1,15 @@
 // A night in numbers: its events, the weight of all cells and of the heaviest line, and both sides of the two bounds of demand 3, the one for
 // the heaviest part and the other for the lightest, which answer for all.
-//
-// There are at most 65,536 weights of at most 16,777,215, so that no sum of them reaches 2^40: what is added here is exact.
 use crate::answers::counted;
 use crate::digits;
 use grid_files::shape::Shape;
 use grid_files::shape::nodes_of;
-use numbered_lines::places::place_of;
+use grid_files::sums::add;
+use grid_files::sums::add_to_parts;
+use grid_files::sums::heaviest;
+use grid_files::sums::lightest;
+use grid_files::sums::sum;
 use words::status::of_output;
-
-// Adds a weight at a place of a table.
-fn add(table: &mut [u64; 4096], place: usize, weight: u64) {
-    let at = place % 4096;
-    table[at] = std::num::wrapping_add_u64(table[at], weight);
-}
 
 // Adds the weight of cell i to its lines, one across each axis; the lines of axis a stand in the table from 1024 a on.
 fn add_to_lines(lines: &mut [u64; 4096], shape: Shape, i: usize, weight: u64) {
@@ -32,54 +28,14 @@ fn add_to_lines(lines: &mut [u64; 4096], shape: Shape, i: usize, weight: u64) {
     }
 }
 
-// Adds all weights to their parts and to their lines.
-fn add_all(
-    shape: Shape,
-    weights: &[u64; 65536],
-    ids: &[u32; 65536],
-    parts: &mut [u64; 4096],
-    lines: &mut [u64; 4096],
-) {
+// Adds all weights to their lines.
+fn add_all(lines: &mut [u64; 4096], shape: Shape, weights: &[u64; 65536]) {
     let cells = shape.cells;
     for i in 0..65536usize {
         if i < cells {
-            add(parts, place_of(ids, i), weights[i]);
             add_to_lines(lines, shape, i, weights[i]);
         }
     }
-}
-
-// The sum of a table.
-fn sum(table: &[u64; 4096]) -> u64 {
-    let mut all: u64 = 0;
-    for i in 0..4096usize {
-        all = std::num::wrapping_add_u64(all, table[i]);
-    }
-    all
-}
-
-// The first of the heaviest places of a table.
-fn heaviest(table: &[u64; 4096]) -> usize {
-    let mut best: usize = 0;
-    for i in 0..4096usize {
-        if table[best % 4096] < table[i] {
-            best = i;
-        }
-    }
-    best
-}
-
-// The first of the lightest places of a table, up to one of them.
-fn lightest(table: &[u64; 4096], last: usize) -> usize {
-    let mut best: usize = 0;
-    for i in 0..4096usize {
-        if i <= last {
-            if table[i] < table[best % 4096] {
-                best = i;
-            }
-        }
-    }
-    best
 }
 
 // Puts a name and a number, on a line.
@@ -201,7 +157,8 @@ pub(crate) fn print(
 ) -> u8 {
     let mut parts = [0u64; 4096];
     let mut lines = [0u64; 4096];
-    add_all(shape, weights, ids, &mut parts, &mut lines);
+    add_to_parts(&mut parts, shape.cells, weights, ids);
+    add_all(&mut lines, shape, weights);
     let mut buffer = [0u8; 4096];
     let a = put_events(&mut buffer, n, answers);
     let b = put_parts(&mut buffer, a, held_by(depth, &parts, &lines), &parts);

@@ -2,8 +2,8 @@
 use native.Mathlib.Omega.{arith}
 use native.Mathlib.Nat.{mul-le-mul}
 use borrow.Author.Needs.{needs}
-use Rattle.replay_cli.proofs.digits.product.Statement.{statement}
-use Rattle.replay_cli.proofs.digits.product.Tie as tie
+use Rattle.grid_files.proofs.shape.product.Statement.{statement}
+use Rattle.grid_files.proofs.shape.product.Tie as tie
 
 pub product-spec : {M : Type 1} → statement M
 product-spec =

@@ -1,8 +1,8 @@
 -- The loop counts up to its end, and every place that it touches is tested to be there.
 use Prim.Native.Nat.{_-_}
 use borrow.Author.Needs.{needs}
-use Rattle.replay_cli.proofs.summary.sum.Statement.{statement}
-use Rattle.replay_cli.proofs.summary.sum.Tie as tie
+use Rattle.grid_files.proofs.sums.sum.Statement.{statement}
+use Rattle.grid_files.proofs.sums.sum.Tie as tie
 
 abbrev Inv-loop : tie.InvT-loop
 Inv-loop table all₀ i₀ all i = Unit {0}

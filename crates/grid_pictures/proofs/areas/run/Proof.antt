@@ -1,17 +1,17 @@
 -- The loop counts up to its end, and every place that it touches is tested to be there.
 use Prim.Native.Nat.{_-_}
 use borrow.Author.Needs.{needs}
-use Rattle.curve_cli.proofs.picture.put_curve.Statement.{statement}
-use Rattle.curve_cli.proofs.picture.put_curve.Tie as tie
+use Rattle.grid_pictures.proofs.areas.run.Statement.{statement}
+use Rattle.grid_pictures.proofs.areas.run.Tie as tie
 
 abbrev Inv-loop : tie.InvT-loop
-Inv-loop buffer₀ at order cells next₀ i₀ buffer next i = Unit {0}
+Inv-loop ids i apart most at₀ n₀ at n = Unit {0}
 
 abbrev μ-loop : tie.MeasureT-loop
-μ-loop buffer₀ at order cells next₀ i₀ buffer next i = 65536 - i
+μ-loop ids i apart most at₀ n₀ at n = most - n
 
-pub put-curve-spec : {M : Type 1} → statement M
-put-curve-spec =
+pub run-spec : {M : Type 1} → statement M
+run-spec =
     tie.close
     (tie.spec
     Inv-loop
@@ -20,6 +20,7 @@ put-curve-spec =
     (λ c κs. search needs)
     (λ c κs. search needs)
     (λ c κs. search needs)
+    (λ c. search needs)
     (λ c. search needs)
     (λ c. search needs)
     (λ c. search needs)
