@@ -144,9 +144,9 @@ fn put_curve(buffer: &mut [u8; 4096], at: usize, order: u32) -> usize {
 fn put_index(buffer: &mut [u8; 4096], at: usize, index: u64, order: u32) -> usize {
     let corner = corner_of(index, order);
     let a = printing::bytes(buffer, at, b"<text x='");
-    let b = printing::number(buffer, a, std::num::wrapping_add_u64(corner.x, 40));
+    let b = printing::number(buffer, a, std::num::wrapping_add_u64(corner.x, 20));
     let c = printing::bytes(buffer, b, b"' y='");
-    let d = printing::number(buffer, c, std::num::wrapping_add_u64(corner.y, 120));
+    let d = printing::number(buffer, c, std::num::wrapping_add_u64(corner.y, 100));
     let e = printing::bytes(buffer, d, b"'>");
     let f = printing::number(buffer, e, index);
     printing::bytes(buffer, f, b"</text>\n")
@@ -158,7 +158,11 @@ fn put_indices(buffer: &mut [u8; 4096], at: usize, order: u32) -> usize {
         return at;
     }
     let cells = cells_of(order);
-    let mut next = printing::bytes(buffer, at, b"<g font-size='100' fill='#666'>\n");
+    let mut next = printing::bytes(
+        buffer,
+        at,
+        b"<g font-size='90' stroke='white' stroke-width='20' stroke-linejoin='round' paint-order='stroke'>\n",
+    );
     for i in 0..256u64 {
         if i < cells {
             next = put_index(buffer, next, i, order);
@@ -230,8 +234,8 @@ fn draw(order: u32) -> u8 {
     let b = put_title(&mut buffer, a, order);
     let c = printing::bytes(&mut buffer, b, b"<g transform='scale(.1)'>\n");
     let d = put_frame(&mut buffer, c, order);
-    let e = put_indices(&mut buffer, d, order);
-    let f = put_curve(&mut buffer, e, order);
+    let e = put_curve(&mut buffer, d, order);
+    let f = put_indices(&mut buffer, e, order);
     let g = put_ends(&mut buffer, f, order);
     let h = printing::bytes(&mut buffer, g, b"</g>\n</svg>\n");
     of_output(printing::flush(&buffer, h))

@@ -34,7 +34,7 @@ fn put_label(buffer: &mut [u8; 4096], at: usize, area: Area, id: u64, weight: u6
     if area.height < 140 {
         return at;
     }
-    let narrow = std::num::wrapping_add_u64(taken(id), 40);
+    let narrow = std::num::wrapping_add_u64(taken(id), 80);
     if area.width < narrow {
         return at;
     }

@@ -23,7 +23,7 @@ const HEIGHT: u64 = 7800;
 
 pub(crate) const NUMBERS: u64 = 340;
 
-const TITLES: u64 = 900;
+const TITLES: u64 = 960;
 
 const MARGIN: u64 = 200;
 
@@ -86,12 +86,12 @@ fn lesser(shape: Shape, panels: u64, columns: u64) -> u64 {
     d
 }
 
-// The number of panels in a row for which cells are largest.
+// The largest number of panels in a row for which cells are largest.
 fn columns_of(shape: Shape, panels: u64) -> u64 {
     let mut best: u64 = 1;
     for n in 1..41u64 {
         if n <= panels {
-            if lesser(shape, panels, best) < lesser(shape, panels, n) {
+            if lesser(shape, panels, best) <= lesser(shape, panels, n) {
                 best = n;
             }
         }

@@ -90,6 +90,9 @@ pub(crate) fn darkest(plan: Plan, weights: &[u64; 65536]) -> u64 {
 
 // How much white lies over a square, in thousandths: from 700 for weight 0 to none for the darkest.
 fn white(weight: u64, most: u64) -> u64 {
+    if weight == 0 {
+        return 700;
+    }
     if most <= weight {
         return 0;
     }

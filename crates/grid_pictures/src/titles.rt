@@ -126,7 +126,7 @@ fn put_panels(buffer: &mut [u8; 4096], at: usize, shape: Shape, plan: Plan) -> u
     let mut next = printing::bytes(
         buffer,
         at,
-        b"<text x='20' y='88' fill='#444'>dashed: behind a cut across z",
+        b"<text x='20' y='88' fill='#444'>dashed: a cut across z parts it from the layer shown before",
     );
     if plan.every != 1 {
         next = printing::bytes(buffer, next, b"; one layer of each ");
