@@ -1,4 +1,4 @@
-// The colours of parts: each has the first that no neighbour has which begins before it. So neighbours never have one hue, and a few hues do.
+// The colours of parts: each has the first that no neighbour has which begins before it, and the last where the others are all taken.
 use crate::areas::behind;
 use crate::areas::over;
 use crate::areas::rest;
