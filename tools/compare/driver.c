@@ -6,6 +6,7 @@
  * slices untouched.
  * Decoders are held to give back the cell and the index. Every slice lies between guards. What is found is said on standard
  * error, with the first differences; the exit status is 1 where there is one. */
+#include "draw.h"
 #include "plain.h"
 #include "skarvolm.h"
 #include <inttypes.h>
@@ -17,15 +18,7 @@
 enum { GUARD = 8, CELLS = 65536, POINTS = 512, NODES = 4095 };
 enum { TOP_2D = 32, TOP_3D = 21, TOP_OF_COUPE = 30 };
 
-static uint64_t state;
 static uint64_t refused, trips, levels, placed, sound, faults;
-
-static uint64_t draw(void) {
-    uint64_t z = (state += 0x9e3779b97f4a7c15u);
-    z = (z ^ (z >> 30)) * 0xbf58476d1ce4e5b9u;
-    z = (z ^ (z >> 27)) * 0x94d049bb133111ebu;
-    return z ^ (z >> 31);
-}
 
 static uint64_t below(uint64_t n) { return n ? draw() % n : 0; }
 
@@ -365,7 +358,7 @@ int main(int argc, char **argv) {
         fprintf(stderr, "usage: driver SEED COUNT\n");
         return 2;
     }
-    state = strtoull(argv[1], 0, 10);
+    seed = strtoull(argv[1], 0, 10);
     uint64_t count = strtoull(argv[2], 0, 10);
     for (uint64_t i = 0; i < count; i++) {
         switch (below(16)) {

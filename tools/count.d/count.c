@@ -3,6 +3,7 @@
  * together, and ends with status 1 where they differ; then calls the one side for all inputs TIMES times, a digit. What a run
  * does besides the calls does not depend on the digit, so that the difference of two runs is that of the calls and their
  * loop. */
+#include "draw.h"
 #include "empty.h"
 #include "plain.h"
 #include "skarvolm.h"
@@ -65,14 +66,6 @@ static struct {
     uint64_t refused, wide[3][POINTS], weights[CELLS];
     uint32_t splits[NODES], ids[CELLS], order[CELLS], said[EVENTS];
 } answers, others;
-
-static uint64_t draw(void) {
-    static uint64_t state = 1;
-    uint64_t z = (state += 0x9e3779b97f4a7c15u);
-    z = (z ^ (z >> 30)) * 0xbf58476d1ce4e5b9u;
-    z = (z ^ (z >> 27)) * 0x94d049bb133111ebu;
-    return z ^ (z >> 31);
-}
 
 static size_t cells_of(const struct operation *o) { return (size_t)o->sides[0] * o->sides[1] * o->sides[2]; }
 static size_t nodes_of(const struct operation *o) { return ((size_t)1 << o->order) - 1; }

@@ -1,4 +1,6 @@
 /* deposits COUNT: what ../deposits says. */
+#include "draw.h"
+#include "plain.h"
 #include "skarvolm.h"
 #include <inttypes.h>
 #include <stdio.h>
@@ -11,28 +13,8 @@ enum { MASKS = sizeof of_encoders / sizeof *of_encoders };
 
 static uint64_t compared, differ, faults;
 
-static uint64_t draw(void) {
-    static uint64_t state = 1;
-    uint64_t z = (state += 0x9e3779b97f4a7c15u);
-    z = (z ^ (z >> 30)) * 0xbf58476d1ce4e5b9u;
-    z = (z ^ (z >> 27)) * 0x94d049bb133111ebu;
-    return z ^ (z >> 31);
-}
-
-/* the loop over 64 bits */
-static uint64_t by_loop(uint64_t source, uint64_t mask) {
-    uint64_t result = 0;
-    for (int turn = 0; turn < 64 && mask != 0; turn++) {
-        uint64_t rightmost = mask & (0 - mask);
-        mask &= mask - 1;
-        result |= (source & 1) * rightmost;
-        source >>= 1;
-    }
-    return result;
-}
-
 static void hold(uint64_t source, uint64_t mask) {
-    uint64_t is = skarvolm_deposit(source, mask), should = by_loop(source, mask);
+    uint64_t is = skarvolm_deposit(source, mask), should = plain_deposit(source, mask);
     compared++;
     if (is == should)
         return;
