@@ -67,7 +67,8 @@ uint64_t skarvolm_deposit(uint64_t source, uint64_t mask);
 uint32_t skarvolm_encode_2d(uint64_t x, uint64_t y, uint32_t order, uint64_t *index);
 uint32_t skarvolm_encode_3d(uint64_t x, uint64_t y, uint64_t z, uint32_t order, uint64_t *index);
 
-/* The cell of a Hilbert index. Tests 1, 3. */
+/* The cell of a Hilbert index. The cells of an index and of the next differ by 1 in one coordinate and not at all in the others.
+ * Tests 1, 3. */
 uint32_t skarvolm_decode_2d(uint64_t index, uint32_t order, uint64_t *x, uint64_t *y);
 uint32_t skarvolm_decode_3d(uint64_t index, uint32_t order, uint64_t *x, uint64_t *y, uint64_t *z);
 

@@ -8,6 +8,8 @@ pub mod Answers
 pub mod NoTwoCellsShareAnIndex
 pub mod EveryIndexAt32
 pub mod Demand2
+pub mod NeighboursOnTheCurve
+pub mod OneCoordinateByOne
 pub mod Trips
 pub mod Turns
 pub mod Groups

@@ -1,12 +1,12 @@
--- The one test of a machine: in each row the digits are a permutation of the quadrants, `undo` is its inverse, and each next state is a
+-- The first of two tests of a machine: in each row the digits are a permutation of the quadrants, `undo` is its inverse, and each next state is a
 -- state. The 2D and the 3D machine pass it. Assumes nothing.
 use Prim.Native.Nat.{ℕ, _^_, _<_}
 use mathlib.Core.Path.{_≡_}
 use mathlib.Core.Bool.{Bool, _&&_}
 use lib.Dec.{T, ltb, ltb→lt, eqb, eqb→eq, lit<}
-use Rattle.rules.specs.Sums.{pick}
+use Rattle.rules.specs.Sums.{pick, allBelow}
 use Rattle.rules.specs.Curve.{Machine, seekDigit, undo, digitTable, nextTable, plane, octantTable, space}
-use Rattle.curve_laws.proofs.All.{left, right, all, all-at}
+use Rattle.curve_laws.proofs.All.{left, right, all-at}
 
 abbrev pub sound : {d : ℕ} → Machine d → ℕ → ℕ → Bool
 sound {d} M s q =
@@ -14,7 +14,7 @@ sound {d} M s q =
     && (ltb (undo M s q) (2 ^ d) && (eqb (undo M s (M .digit s q)) q && eqb (M .digit s (undo M s q)) q))
 
 abbrev pub permutes : {d : ℕ} → Machine d → Bool
-permutes {d} M = all (M .states) (λ s. all (2 ^ d) (sound M s))
+permutes {d} M = allBelow (M .states) (λ s. allBelow (2 ^ d) (sound M s))
 
 -- what the test says of a state and a quadrant, or a digit
 pub record Sound {d : ℕ} (M : Machine d) (s q : ℕ) : Type 0 where
@@ -31,7 +31,7 @@ row {d} M t s q p h =
     let c : Bool = ltb (undo M s q) (2 ^ d) in
     let u : Bool = eqb (undo M s (M .digit s q)) q in
     let v : Bool = eqb (M .digit s (undo M s q)) q in
-    let w : T (a && b && (c && (u && v))) = all-at (2 ^ d) (sound M s) (all-at (M .states) (λ s. all (2 ^ d) (sound M s)) t s p) q h in
+    let w : T (a && b && (c && (u && v))) = all-at (2 ^ d) (sound M s) (all-at (M .states) (λ s. allBelow (2 ^ d) (sound M s)) t s p) q h in
     let l : T (a && b) = left (a && b) (c && (u && v)) w in
     let r : T (c && (u && v)) = right (a && b) (c && (u && v)) w in
     let m : T (u && v) = right c (u && v) r in

@@ -1,7 +1,7 @@
 // From an index of the 2D curve to its cell, level by level, by the inverses of the rows of 01's table.
 //
-// A caller may rely on what curve_laws says of `decode2`: `decode-encode-2d`, `encode-decode-2d` (Demand2); each promise has one answer
-// (proofs/Once.antt, `decode-2d-only` and so on).
+// A caller may rely on what curve_laws says of `decode2`: `decode-encode-2d`, `encode-decode-2d` (Demand2), and that successive indices have
+// neighbouring cells, `neighbours-2d`, `ends-2d` (NeighboursOnTheCurve); each promise has one answer (proofs/Once.antt, `decode-2d-only` and so on).
 ghost use mathlib.Core.Path.{_≡_};
 ghost use Prim.Native.Nat.{_+_, _*_, _≤_, _<_};
 ghost use lib.Bits.{bitAnd};

@@ -1,7 +1,7 @@
 // From an index of the 3D curve to its cell, level by level, by the inverses of the rows of 01's table.
 //
-// A caller may rely on what curve_laws says of `decode3`: `decode-encode-3d`, `encode-decode-3d` (Demand2); each promise has one answer
-// (proofs/Once.antt, `decode-3d-only` and so on).
+// A caller may rely on what curve_laws says of `decode3`: `decode-encode-3d`, `encode-decode-3d` (Demand2), and that successive indices have
+// neighbouring cells, `neighbours-3d`, `ends-3d` (NeighboursOnTheCurve); each promise has one answer (proofs/Once.antt, `decode-3d-only` and so on).
 ghost use mathlib.Core.Path.{_≡_};
 ghost use Prim.Native.Nat.{_+_, _*_, _≤_, _<_};
 ghost use lib.Bits.{bitAnd};

@@ -2,3 +2,4 @@ pub mod Demands
 pub mod NotIdle
 pub mod Parts
 pub mod Replay
+pub mod Neighbours

@@ -1,2 +1,3 @@
 pub mod NamedCases
+pub mod CornersMeet
 pub mod Once

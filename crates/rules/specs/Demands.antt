@@ -1,5 +1,5 @@
 -- The demands, as statements. Assumes nothing.
-use Prim.Native.Nat.{ℕ, zero, suc, _+_, _*_, _^_, _≤_, _<_}
+use Prim.Native.Nat.{ℕ, zero, suc, _+_, _-_, _*_, _^_, _≤_, _<_}
 use mathlib.Core.Path.{_≡_}
 use mathlib.Core.Bool.{true, false}
 use mathlib.Core.List.{List, [], _∷_}
@@ -11,7 +11,9 @@ use Rattle.rules.specs.Refusals.{Test, top2, top3}
 use Rattle.rules.specs.Curve.{encode2, encode3, decode2, decode3}
 use Rattle.rules.specs.Halving.{Halving, halving2, halving3, refusalOf, halve}
 use Rattle.rules.specs.declared.Coded.the-variants.{Index}
+use Rattle.rules.specs.declared.Cell2.{Cell2}
 use Rattle.rules.specs.declared.Cell2.the-variants as flat
+use Rattle.rules.specs.declared.Cell3.{Cell3}
 use Rattle.rules.specs.declared.Cell3.the-variants as solid
 use Rattle.rules.specs.declared.Halving2.{Halving2}
 use Rattle.rules.specs.declared.Halving3.{Halving3}
@@ -89,3 +91,31 @@ Demand3In2D = (h : Halving2) → Demand3Of (halving2 h)
 
 abbrev pub Demand3In3D : Type 0
 Demand3In3D = (h : Halving3) → Demand3Of (halving3 h)
+
+-- NEIGHBOURS, 02's 13/14: successive indices decode to neighbouring cells; the curve begins in the corner at 0 and ends at the far end of x
+
+-- how far apart two numbers are
+abbrev pub apart : ℕ → ℕ → ℕ
+apart a b = (a - b) + (b - a)
+
+-- cells, and no refusals, whose differences on all axes add up to 1: by 1 in one coordinate and not at all in the others
+-- (`one-coordinate-by-one` of curve_laws)
+abbrev pub Beside2 : Cell2 → Cell2 → Type 0
+Beside2 c k = (x : ℕ) × (y : ℕ) × (u : ℕ) × (v : ℕ) × (c ≡ flat.At x y) × (k ≡ flat.At u v) × (apart x u + apart y v ≡ 1)
+
+abbrev pub Beside3 : Cell3 → Cell3 → Type 0
+Beside3 c k =
+    (x : ℕ) × (y : ℕ) × (z : ℕ) × (u : ℕ) × (v : ℕ) × (w : ℕ)
+    × (c ≡ solid.At x y z) × (k ≡ solid.At u v w) × (apart x u + apart y v + apart z w ≡ 1)
+
+abbrev pub Neighbours2 : Type 0
+Neighbours2 = (i order : ℕ) → order ≤ top2 → i + 1 < 4 ^ order → Beside2 (decode2 i order) (decode2 (i + 1) order)
+
+abbrev pub Neighbours3 : Type 0
+Neighbours3 = (i order : ℕ) → order ≤ top3 → i + 1 < 8 ^ order → Beside3 (decode3 i order) (decode3 (i + 1) order)
+
+abbrev pub Ends2 : Type 0
+Ends2 = (order : ℕ) → order ≤ top2 → (decode2 0 order ≡ flat.At 0 0) × (decode2 (4 ^ order - 1) order ≡ flat.At (2 ^ order - 1) 0)
+
+abbrev pub Ends3 : Type 0
+Ends3 = (order : ℕ) → order ≤ top3 → (decode3 0 order ≡ solid.At 0 0 0) × (decode3 (8 ^ order - 1) order ≡ solid.At (2 ^ order - 1) 0 0)

@@ -1,6 +1,6 @@
 -- Sums, largest values and lists of numbers: what the chapters share. Assumes nothing.
 use Prim.Native.Nat.{ℕ, zero, suc, _+_, max}
-use mathlib.Core.Bool.{Bool, true, false, _||_}
+use mathlib.Core.Bool.{Bool, true, false, _||_, _&&_}
 use mathlib.Core.List.{List, [], _∷_, _++_}
 
 -- the first where the test passes, else the second
@@ -12,6 +12,11 @@ pick false a b = b
 unfoldable pub any : {A : Type 0} → (A → Bool) → List A → Bool
 any p [] = false
 any p (x ∷ xs) = p x || any p xs
+
+-- whether every number below n passes the test
+abbrev pub allBelow : ℕ → (ℕ → Bool) → Bool
+allBelow zero p = true
+allBelow (suc n) p = p n && allBelow n p
 
 -- f 0 + .. + f (n - 1)
 unfoldable pub total : (ℕ → ℕ) → ℕ → ℕ

@@ -9,8 +9,8 @@
 //   Halving   lo and hi of both editions, the cut, the tree of splits, the ids
 //   Demands   what is to be shown of all this
 //
-// There is no function here but the two that make a halving's record without an edition and a first axis, and no proof but
-// that of the named cases (proofs/NamedCases.antt).
+// There is no function here but the two that make a halving's record without an edition and a first axis, and no proof but what is computed: the
+// named cases (proofs/NamedCases.antt), and that the corners of the curve's quadrants meet in both tables (proofs/CornersMeet.antt).
 ghost use mathlib.Core.Path.{_≡_};
 ghost use Rattle.rules.specs.Halving.{of2, of3};
 
