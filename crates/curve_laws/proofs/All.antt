@@ -1,4 +1,4 @@
--- A test of every number below n, which antt computes. Assumes nothing.
+-- What a test of every number below n says of each. Assumes nothing.
 use Prim.Native.Nat.{ℕ, zero, suc, _<_}
 use mathlib.Core.Path.{subst, sym}
 use mathlib.Core.Bool.{Bool, true, false, _&&_}

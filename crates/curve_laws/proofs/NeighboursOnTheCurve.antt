@@ -18,8 +18,9 @@ use Rattle.rules.specs.Curve.{Machine, part, bit, level, seekDigit, undo, decod
 use Rattle.rules.specs.Demands.{apart, Neighbours2, Ends2, Neighbours3, Ends3}
 use Rattle.rules.proofs.CornersMeet.{distance, inside, keeps, gap, connected, connects, plane-connects, space-connects}
 use Rattle.curve_laws.proofs.All.{left, right, all-at}
-use Rattle.curve_laws.proofs.Parts.{part-lt, part-mod, more, below, level-more}
+use Rattle.curve_laws.proofs.Parts.{part-lt, more, below, level-more}
 use Rattle.curve_laws.proofs.Permutes.{permutes, row, plane-permutes, plane-start, space-permutes, space-start}
+use Rattle.curve_laws.proofs.Groups.{level-mod}
 use Rattle.curve_laws.proofs.Refusals.{decode2-cell, decode3-cell}
 use Rattle.curve_laws.proofs.Demand2.{power}
 
@@ -129,12 +130,12 @@ module _ {d : ℕ} (M : Machine d) (p : T (permutes M)) (t : T (connects M)) whe
   first-cell : (k s i : ℕ) → s < M .states → i % 2 ^ (d * k) ≡ 0 → (e : ℕ) → cell M k s i e ≡ bit e (undo M s 0) * (2 ^ k - 1)
   first-cell k s i h z e =
       in-corner 0 (pow-pos d) (λ s l. connection M t s l .first-keeps) e k s (λ j. level d j i) h
-      (λ j l. sym (part-mod d (d * j) (d * k) i (below d j k l)) ∙ ap (level d j) z ∙ part-zero d (d * j))
+      (λ j l. sym (level-mod d j k i l) ∙ ap (level d j) z ∙ part-zero d (d * j))
 
   last-cell : (k s i : ℕ) → s < M .states → i % 2 ^ (d * k) ≡ 2 ^ (d * k) - 1 → (e : ℕ) → cell M k s i e ≡ bit e (undo M s (2 ^ d - 1)) * (2 ^ k - 1)
   last-cell k s i h z e =
       in-corner (2 ^ d - 1) (ones-lt d) (λ s l. connection M t s l .last-keeps) e k s (λ j. level d j i) h
-      (λ j l. sym (part-mod d (d * j) (d * k) i (below d j k l)) ∙ ap (level d j) z ∙ part-full d (d * j) (d * k) (below d j k l))
+      (λ j l. sym (level-mod d j k i l) ∙ ap (level d j) z ∙ part-full d (d * j) (d * k) (below d j k l))
 
   touching : (P s g : ℕ) → 0 < P → s < M .states → g < 2 ^ d - 1 → gap M P s g ≡ 1
   touching P s g o h l =
