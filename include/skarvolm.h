@@ -72,8 +72,9 @@ uint32_t skarvolm_encode_3d(uint64_t x, uint64_t y, uint64_t z, uint32_t order, 
 uint32_t skarvolm_decode_2d(uint64_t index, uint32_t order, uint64_t *x, uint64_t *y);
 uint32_t skarvolm_decode_3d(uint64_t index, uint32_t order, uint64_t *x, uint64_t *y, uint64_t *z);
 
-/* The cell of a value on the axis from low to high: makes the axis, then the cell. Tests 1, 6, 8, 7 of the axis, then 6, 8 of
- * the value. */
+/* The cell of a value on the axis from low to high: makes the axis, then the cell. Where low is below high it differs by at most 1
+ * from the whole part of (value - low) * 2^order / (high - low), worked out exactly. Tests 1, 6, 8, 7 of the axis, then 6, 8 of the
+ * value. */
 uint32_t skarvolm_cell(double low, double high, uint32_t order, double value, uint64_t *cell);
 
 /* The Hilbert index of each point, over the box along the axes from the lowest to the highest coordinate. One index a point.

@@ -144,7 +144,8 @@ def decode_3d(index, order=DEFAULT_ORDER):
 
 
 def cell(low, high, value, order=DEFAULT_ORDER):
-    """The cell of a value on the axis from `low` to `high`. Refused 1, 6, 8, 7 for the axis, then 6, 8 for the value.
+    """The cell of a value on the axis from `low` to `high`. Where low is below high it differs by at most 1 from the whole part of
+    (value - low) * 2**order / (high - low), worked out exactly. Refused 1, 6, 8, 7 for the axis, then 6, 8 for the value.
 
     >>> [cell(0, 4, value, order=2) for value in (0, 1, 2, 2.5, 3, 4)]
     [0, 0, 1, 2, 2, 3]

@@ -65,7 +65,8 @@ impl HilbertCurve {
         answered(number, (x, y, z))
     }
 
-    /// The cell of a value on the axis from `low` to `high`. Refuses by [`Refused::Order`], [`Refused::Value`],
+    /// The cell of a value on the axis from `low` to `high`. Where `low` is below `high` it differs by at most 1 from the whole part
+    /// of (value - low) · 2^order / (high - low), worked out exactly. Refuses by [`Refused::Order`], [`Refused::Value`],
     /// [`Refused::Outside`], [`Refused::Thin`].
     ///
     /// ```

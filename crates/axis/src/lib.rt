@@ -13,6 +13,8 @@
 //   made-anew, not-made-up           a record is taken for made up unless making it anew gives it back
 //   accepts, refused-order-or-thin   the axis of fit points accepts each of them, and only its order or its width can refuse it
 //   first-zero-stays                 of 0.0 and -0.0 the first met is an end of the points, bit for bit
+// and on cell-at-most-one-off of rounding_laws: the cell differs by at most 1 from the whole part of (value - low) * 2^order / (high - low), worked
+// out exactly.
 // Each promise has one answer (`make-axis-only` and so on, proofs/Once.antt of these crates).
 pub use axis_cell::cell;
 pub use axis_make::make_axis;

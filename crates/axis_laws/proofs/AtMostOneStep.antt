@@ -32,7 +32,7 @@ module _ (low high : Float) (order : ℕ) (answered : firstOf (axisTests low hig
       let hi = fit-finite high (s .high-fit) in
       width-positive high low (fit-low low (s .low-fit)) (fit-high high (s .high-fit)) hi lo (nlt→le high low hi lo (s .ordered)) sloped
 
-  thick : lt (width low high) (fin false 1 (negsuc 19)) ≡ false
+  pub thick : lt (width low high) (fin false 1 (negsuc 19)) ≡ false
   unfolding axisThin
   thick =
       let w = width low high in

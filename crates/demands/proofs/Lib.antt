@@ -3,3 +3,4 @@ pub mod NotIdle
 pub mod Parts
 pub mod Replay
 pub mod Neighbours
+pub mod OneOff

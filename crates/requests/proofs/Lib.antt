@@ -1,2 +1,3 @@
 pub mod PartsCases
 pub mod ReplayCases
+pub mod RoundingCases
