@@ -47,10 +47,14 @@ unfolding cellOn
 on-below (Flat low high order) value i e = pow-pos order
 on-below (Sloped low high order factor) value i e = ready-cell (product factor value low) order (accepted-ready low high order factor value i e)
 
-pub cell-below : (a : Axis) (value : Float) (c : ℕ) → T (inFormat a) → cellOf a value ≡ found.Cell c → c < 2 ^ orderOf a
+-- a value that has a cell passes every test, and the cell is that of the rule
+pub cell-found : (a : Axis) (value : Float) (c : ℕ) → cellOf a value ≡ found.Cell c → (firstOf (cellTests (madeUp a) (lowOf a) (highOf a) value) ≡ 0) × (cellOn a value ≡ c)
 unfolding cellOf cellBy
-cell-below a value c i e = go (firstOf (cellTests (madeUp a) (lowOf a) (highOf a) value)) refl e
+cell-found a value c e = go (firstOf (cellTests (madeUp a) (lowOf a) (highOf a) value)) e
   where
-    go : (n : ℕ) → firstOf (cellTests (madeUp a) (lowOf a) (highOf a) value) ≡ n → cellBy n (cellOn a value) ≡ found.Cell c → c < 2 ^ orderOf a
-    go zero p q = let z : cellOn a value ≡ c = cc in subst (λ (k : ℕ). k < 2 ^ orderOf a) z (on-below a value i p)
-    go (suc n) p q = let y : _≡_ {A = ℕ} 0 1 = cc in absurd (omega arith)
+    go : (n : ℕ) → cellBy n (cellOn a value) ≡ found.Cell c → (n ≡ 0) × (cellOn a value ≡ c)
+    go zero q = (refl, cc)
+    go (suc n) q = let y : _≡_ {A = ℕ} 0 1 = cc in absurd (omega arith)
+
+pub cell-below : (a : Axis) (value : Float) (c : ℕ) → T (inFormat a) → cellOf a value ≡ found.Cell c → c < 2 ^ orderOf a
+cell-below a value c i e = let f = cell-found a value c e in subst (λ (k : ℕ). k < 2 ^ orderOf a) (f .1) (on-below a value i (f .0))

@@ -4,15 +4,14 @@
 -- most, and the product is at most 2^32. Assumes nothing.
 use mathlib.Core.Path.{_≡_, refl, sym, subst}
 use mathlib.Core.Logic.{_⊎_, inl, inr}
-use Prim.Native.Nat.{ℕ, zero, suc}
-use native.Mathlib.Omega.{arith}
+use Prim.Native.Nat.{ℕ}
 use mathlib.Core.Bool.{Bool, true, false, cond}
 use lib.Dec.{T}
 use lib.Ieee.{Float, binary64, mul, div, le, lt, eq, toUnsigned}
-use Rattle.rules.specs.Refusals.{firstOf, nought, width, valueUnfit, axisTests, cellTests, cellBy}
-use Rattle.rules.specs.Axis.{cellCount, nextDown, descend, factorOf, axisOf, makeAxis, madeUp, cellOn, cellOf}
+use Rattle.rules.specs.Refusals.{firstOf, nought, width, valueUnfit, axisTests, cellTests}
+use Rattle.rules.specs.Axis.{cellCount, nextDown, descend, factorOf, axisOf, lowOf, highOf, madeUp, cellOn, cellOf}
+use Rattle.rules.specs.declared.Axis.{Axis}
 use Rattle.rules.specs.declared.Axis.the-variants.{Flat, Sloped}
-use Rattle.rules.specs.declared.AxisAnswer.the-variants as made
 use Rattle.rules.specs.declared.CellAnswer.the-variants as found
 use Rattle.requests.specs.Scaled.{IsF64}
 use Rattle.requests.specs.Rounding.{NearCell, NearOn, AxisIsF64, CellAtMostOneOff, RecordAtMostOneOff}
@@ -21,7 +20,8 @@ use Rattle.axis_laws.proofs.Width.{width-le, width-ge}
 use Rattle.axis_laws.proofs.ProductBelow.{product}
 use Rattle.axis_laws.proofs.Passed.{sound, inside, fit-low, fit-high, fit-finite}
 use Rattle.axis_laws.proofs.AtMostOneStep.{few, wide, thick, at-most-one-step, factor-ready}
-use Rattle.axis_laws.proofs.MadeUp.{inFormat, answered, made-sloped, made-anew}
+use Rattle.axis_laws.proofs.MadeUp.{inFormat, answered}
+use Rattle.axis_laws.proofs.CellBelow.{slope, cell-found}
 use Rattle.axis_laws.proofs.AxisAccepts.{in-format}
 use Rattle.rounding_laws.proofs.ScaledValue.{f64-fits, fits-f64}
 use Rattle.rounding_laws.proofs.CellClose.{near-cell}
@@ -29,12 +29,14 @@ use Rattle.rounding_laws.proofs.CellClose.{near-cell}
 -- EVERY ACCEPTED VALUE
 
 module _ (low high : Float) (order : ℕ) (made : firstOf (axisTests low high order) ≡ 0) (sloped : eq (width low high) nought ≡ false) where
-  factor-stepped : (factorOf low high order ≡ div binary64 (cellCount order) (width low high)) ⊎ (factorOf low high order ≡ nextDown (div binary64 (cellCount order) (width low high)))
+  abbrev quotient : Float
+  quotient = div binary64 (cellCount order) (width low high)
+
+  factor-stepped : (factorOf low high order ≡ quotient) ⊎ (factorOf low high order ≡ nextDown quotient)
   unfolding descend
-  factor-stepped = go (le (cellCount order) (mul binary64 (width low high) (div binary64 (cellCount order) (width low high)))) (at-most-one-step low high order made sloped)
+  factor-stepped = go (le (cellCount order) (mul binary64 (width low high) quotient)) (at-most-one-step low high order made sloped)
     where
-      go : (b : Bool) → factorOf low high order ≡ descend 1 b (cellCount order) (width low high) (div binary64 (cellCount order) (width low high))
-          → (factorOf low high order ≡ div binary64 (cellCount order) (width low high)) ⊎ (factorOf low high order ≡ nextDown (div binary64 (cellCount order) (width low high)))
+      go : (b : Bool) → factorOf low high order ≡ descend 1 b (cellCount order) (width low high) quotient → (factorOf low high order ≡ quotient) ⊎ (factorOf low high order ≡ nextDown quotient)
       go false e = inl e
       go true e = inr e
 
@@ -52,42 +54,23 @@ module _ (low high : Float) (order : ℕ) (made : firstOf (axisTests low high or
       (factorOf low high order) factor-stepped value va (f64-fits value value64) (nlt→le value low va lo above) (nlt→le high value hi va below)
       (factor-ready low high order made sloped value fit above below)
 
-accepted-near : (low high factor value : Float) (order : ℕ) → IsF64 low → IsF64 high → IsF64 value
-    → makeAxis low high order ≡ made.Made (Sloped low high order factor) → firstOf (cellTests (madeUp (Sloped low high order factor)) low high value) ≡ 0
-    → NearCell low high value order (cellOn (Sloped low high order factor) value)
+-- OF EVERY RECORD, whoever wrote it: one that accepts a value is made; on a flat axis every cell is 0
+
+pub on-near : (a : Axis) (value : Float) → AxisIsF64 a → IsF64 value → firstOf (cellTests (madeUp a) (lowOf a) (highOf a) value) ≡ 0 → NearOn a value (cellOn a value)
 unfolding cellOn
-accepted-near low high factor value order low64 high64 value64 made accepted =
-    let r = answered low high order (Sloped low high order factor) made in
-    let k = made-sloped low high order (r .1) in
+on-near (Flat low high order) value a64 value64 accepted = refl
+on-near (Sloped low high order factor) value a64 value64 accepted =
     let i = inside (madeUp (Sloped low high order factor)) low high value accepted in
-    subst (λ (f : Float). NearCell low high value order (toUnsigned 64 (product f value low))) (sym (k .2))
-    (factor-near low high order (r .0) (k .1) value low64 high64 value64 (i .value-fit) (i .not-below) (i .not-above))
+    let s = slope low high order factor (f64-fits factor (a64 .2)) (i .made) in
+    subst (λ (f : Float). NearCell low high value order (toUnsigned 64 (product f value low))) (sym (s .is-factor))
+    (factor-near low high order (s .answered) (s .wide) value (a64 .0) (a64 .1) value64 (i .value-fit) (i .not-below) (i .not-above))
 
-pub cell-at-most-one-off : CellAtMostOneOff
-unfolding cellOf cellBy
-cell-at-most-one-off low high factor value order c low64 high64 value64 made cell = go (firstOf (cellTests (madeUp (Sloped low high order factor)) low high value)) refl cell
-  where
-    go : (n : ℕ) → firstOf (cellTests (madeUp (Sloped low high order factor)) low high value) ≡ n → cellBy n (cellOn (Sloped low high order factor) value) ≡ found.Cell c → NearCell low high value order c
-    go zero p q = let z : cellOn (Sloped low high order factor) value ≡ c = cc in subst (NearCell low high value order) z (accepted-near low high factor value order low64 high64 value64 made p)
-    go (suc n) p q = let y : _≡_ {A = ℕ} 0 1 = cc in absurd (omega arith)
-
--- a record that is not made up is made; on a flat axis every cell is 0
 pub record-at-most-one-off : RecordAtMostOneOff
-unfolding cellOf cellBy cellOn
-record-at-most-one-off (Flat low high order) value c a64 value64 cell = go (firstOf (cellTests (madeUp (Flat low high order)) low high value)) cell
-  where
-    go : (n : ℕ) → cellBy n 0 ≡ found.Cell c → c ≡ 0
-    go zero q = cc
-    go (suc n) q = let y : _≡_ {A = ℕ} 0 1 = cc in absurd (omega arith)
-record-at-most-one-off (Sloped low high order factor) value c a64 value64 cell = go (firstOf (cellTests (madeUp (Sloped low high order factor)) low high value)) refl cell
-  where
-    go : (n : ℕ) → firstOf (cellTests (madeUp (Sloped low high order factor)) low high value) ≡ n → cellBy n (cellOn (Sloped low high order factor) value) ≡ found.Cell c → NearCell low high value order c
-    go zero p q =
-        let up = inside (madeUp (Sloped low high order factor)) low high value p .made in
-        cell-at-most-one-off low high factor value order c (a64 .0) (a64 .1) value64 (made-anew (Sloped low high order factor) (f64-fits factor (a64 .2)) up) cell
-    go (suc n) p q = let y : _≡_ {A = ℕ} 0 1 = cc in absurd (omega arith)
+record-at-most-one-off a value c a64 value64 cell = let f = cell-found a value c cell in subst (NearOn a value) (f .1) (on-near a value a64 value64 (f .0))
 
--- an axis that is made of f64s has f64s
+-- OF AN AXIS THAT IS MADE
+
+-- of f64s it has f64s
 pub made-is-f64 : (low high : Float) (order : ℕ) → IsF64 low → IsF64 high → firstOf (axisTests low high order) ≡ 0 → AxisIsF64 (axisOf low high order)
 unfolding axisOf
 made-is-f64 low high order l h made = go (eq (width low high) nought) (in-format low high order made)
@@ -96,7 +79,11 @@ made-is-f64 low high order l h made = go (eq (width low high) nought) (in-format
     go true f = (l, h)
     go false f = (l, h, fits-f64 (factorOf low high order) f)
 
--- so of the axis that low, high and order make
 pub made-at-most-one-off : (low high value : Float) (order c : ℕ) → IsF64 low → IsF64 high → IsF64 value → firstOf (axisTests low high order) ≡ 0
     → cellOf (axisOf low high order) value ≡ found.Cell c → NearOn (axisOf low high order) value c
 made-at-most-one-off low high value order c low64 high64 value64 made = record-at-most-one-off (axisOf low high order) value c (made-is-f64 low high order low64 high64 made) value64
+
+pub cell-at-most-one-off : CellAtMostOneOff
+cell-at-most-one-off low high factor value order c low64 high64 value64 made =
+    let r = answered low high order (Sloped low high order factor) made in
+    record-at-most-one-off (Sloped low high order factor) value c (subst AxisIsF64 (r .1) (made-is-f64 low high order low64 high64 (r .0))) value64

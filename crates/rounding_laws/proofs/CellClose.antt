@@ -4,7 +4,7 @@
 use mathlib.Core.Path.{_≡_, refl, sym, ap, ap₂, _∙_, subst}
 use mathlib.Core.Logic.{_⊎_, inl, inr}
 use Prim.Native.Nat.{ℕ, _+_, _-_, _*_, _/_, _^_, _≤_, _<_}
-use native.Mathlib.Nat.{lt-irrefl, le-div-iff-mul-le, le-trans, le-of-eq, le-of-lt, lt-of-lt-of-le, lt-of-le-of-lt, mul-comm, mul-assoc, mul-left-comm, mul-right-comm, mul-mul-mul-comm, mul-le-mul-right, mul-le-mul-left, mul-lt-mul-of-pos-right, le-of-mul-le-mul-right, lt-of-mul-lt-mul-right, mul-pos, one-mul, zero-mul, add-mul, div-mul-le-self, lt-mul-div-succ, div-lt-iff-lt-mul, min-eq-left, eq-of-mul-eq-mul-right}
+use native.Mathlib.Nat.{lt-irrefl, le-trans, le-of-eq, le-of-lt, lt-of-lt-of-le, lt-of-le-of-lt, mul-comm, mul-assoc, mul-left-comm, mul-right-comm, mul-mul-mul-comm, mul-le-mul-right, mul-le-mul-left, mul-lt-mul-of-pos-right, le-of-mul-le-mul-right, lt-of-mul-lt-mul-right, mul-pos, one-mul, zero-mul, add-mul, div-mul-le-self, lt-mul-div-succ, div-lt-iff-lt-mul, div-eq-of-lt-le, min-eq-left, eq-of-mul-eq-mul-right}
 use native.Mathlib.Omega.{arith}
 use mathlib.Core.Bool.{Bool, true, false, not, _&&_}
 use lib.IntN.{ℤ, pos, _+ℤ_, _-ℤ_, +ℤ-comm, -ℤ-+ℤ-cancel}
@@ -22,10 +22,10 @@ use Rattle.requests.specs.Rounding.{AtMostOneOff, Clear, NearCell}
 use Rattle.axis_laws.proofs.SubMono.{minus, gap, sub-is, sub-mono, false-of}
 use Rattle.axis_laws.proofs.StepPattern.{upward}
 use Rattle.axis_laws.proofs.MulMono.{nonneg, positive-nonneg, under, mul-is, mul-upward, Difference, up-to, minus-zero, difference}
-use Rattle.axis_laws.proofs.OneStep.{k, Q, value-below, quotient-value, quotient-bits, quotient-is, value-nonneg, num-pos}
+use Rattle.axis_laws.proofs.OneStep.{H, k, Q, value-below, quotient-value, quotient-bits, quotient-is, value-nonneg, num-pos}
 use Rattle.axis_laws.proofs.Width.{cells-value, cells-positive}
 use Rattle.axis_laws.proofs.ProductBelow.{Ready, at, zero-below, product, mul-minus-zero}
-use Rattle.rounding_laws.proofs.RoundNear.{H, Near, grid-near, rounded-value}
+use Rattle.rounding_laws.proofs.RoundNear.{Near, grid-near, rounded-value}
 use Rattle.rounding_laws.proofs.ErrorsAddUp.{Most, through, times, less-of, fine-most, fine-least, whole-most, whole-least, product-most, product-least, Within}
 use Rattle.rounding_laws.proofs.ErrorsAddUp as all
 use Rattle.rounding_laws.proofs.ScaledValue.{gapScaled, gap-value, gap-grows, scaled-gap}
@@ -65,23 +65,17 @@ module _ (s e v order p : ℕ) (s0 : 0 < s) (v0 : 0 < v) (small : order ≤ 32) 
       go x y z u z0 h k = omega arith
 
   exact : (q : ℕ) → Clear e v order q → p / s ≡ q
-  exact q clear = between (p / s) (le-div-iff-mul-le s0 .1 reaches) (div-lt-iff-lt-mul s0 .1 short)
+  exact q clear = div-eq-of-lt-le s reaches short
     where
-      between : (c : ℕ) → q ≤ c → c < q + 1 → c ≡ q
-      between c h k = omega arith
-
-      turned : (m a : ℕ) → m * a * s ≡ m * (a * s)
-      turned m a = mul-assoc m a s
-
       low : 2 ^ 49 * (q * v * s) + n * (v * s) ≤ 2 ^ 49 * (e * n * s)
       low =
-          le-trans (le-of-eq (sym (add-mul (2 ^ 49 * (q * v)) (n * v) s ∙ ap₂ (λ (x y : ℕ). x + y) (turned (2 ^ 49) (q * v)) (turned n v))))
-          (le-trans (mul-le-mul-right s (clear .from-below)) (le-of-eq (turned (2 ^ 49) (e * n))))
+          le-trans (le-of-eq (sym (add-mul (2 ^ 49 * (q * v)) (n * v) s ∙ ap₂ (λ (x y : ℕ). x + y) (mul-assoc (2 ^ 49) (q * v) s) (mul-assoc n v s))))
+          (le-trans (mul-le-mul-right s (clear .from-below)) (le-of-eq (mul-assoc (2 ^ 49) (e * n) s)))
 
       high : 2 ^ 49 * (e * n * s) + n * (v * s) < 2 ^ 49 * ((q + 1) * v * s)
       high =
-          lt-of-le-of-lt (le-of-eq (sym (add-mul (2 ^ 49 * (e * n)) (n * v) s ∙ ap₂ (λ (x y : ℕ). x + y) (turned (2 ^ 49) (e * n)) (turned n v))))
-          (lt-of-lt-of-le (mul-lt-mul-of-pos-right (clear .from-above) s0) (le-of-eq (turned (2 ^ 49) ((q + 1) * v))))
+          lt-of-le-of-lt (le-of-eq (sym (add-mul (2 ^ 49 * (e * n)) (n * v) s ∙ ap₂ (λ (x y : ℕ). x + y) (mul-assoc (2 ^ 49) (e * n) s) (mul-assoc n v s))))
+          (lt-of-lt-of-le (mul-lt-mul-of-pos-right (clear .from-above) s0) (le-of-eq (mul-assoc (2 ^ 49) ((q + 1) * v) s)))
 
       under : (x y z u : ℕ) → 562949953421312 * x + u ≤ 562949953421312 * y → H * y ≤ H * z + 8 * u → x ≤ z
       under x y z u h k = omega arith

@@ -2,7 +2,7 @@
 -- where the quotient is clear of borders in cell q, that whole part is q. Assumes nothing.
 use Prim.Native.Nat.{ℕ, _+_, _*_, _/_, _^_, _≤_, _<_}
 use mathlib.Core.Path.{_≡_}
-use native.Mathlib.Nat.{mul-comm, add-mul, mul-le-mul-right, div-lt-iff-lt-mul, le-div-iff-mul-le, div-mul-le-self, lt-mul-div-succ, lt-of-mul-lt-mul-right}
+use native.Mathlib.Nat.{mul-comm, add-mul, mul-le-mul-right, div-lt-iff-lt-mul, div-eq-of-lt-le, div-mul-le-self, lt-mul-div-succ, lt-of-mul-lt-mul-right}
 use native.Mathlib.Omega.{arith}
 use Rattle.requests.specs.Rounding.{AtMostOneOff, Clear}
 
@@ -36,11 +36,8 @@ module _ (across whole order : ℕ) (not-flat : 0 < whole) where
       }
 
   pub clear-is-whole : (c : ℕ) → Clear across whole order c → wholePart across whole order ≡ c
-  clear-is-whole c clear = between q (le-div-iff-mul-le not-flat .1 (under (c * whole) x _ (clear .from-below))) (div-lt-iff-lt-mul not-flat .1 (over ((c + 1) * whole) x _ (clear .from-above)))
+  clear-is-whole c clear = div-eq-of-lt-le whole (under (c * whole) x _ (clear .from-below)) (over ((c + 1) * whole) x _ (clear .from-above))
     where
-      between : (q : ℕ) → c ≤ q → q < c + 1 → q ≡ c
-      between q h k = omega arith
-
       under : (x y u : ℕ) → 562949953421312 * x + u ≤ 562949953421312 * y → x ≤ y
       under x y u h = omega arith
 

@@ -8,7 +8,8 @@ use native.Mathlib.Numerals.{add-one}
 use native.Mathlib.Omega.{arith}
 use lib.Dec.{lit<, lit≤}
 use lib.Pow.{pow-add}
-use Rattle.rounding_laws.proofs.RoundNear.{H, Near}
+use Rattle.axis_laws.proofs.OneStep.{H}
+use Rattle.rounding_laws.proofs.RoundNear.{Near}
 
 -- a is at most (1 + 2^-52)^j times b
 pub record Most (j a b : ℕ) : Type 0 where
@@ -84,19 +85,18 @@ no-more : (a b : ℕ) → a ≤ b → Most 1 a b
 no-more a b h = record { most = omega arith }
 
 module _ (g e s : ℕ) (s0 : 0 < s) (near : Near g (e * s) s) where
-  pub whole-most : Most 1 g e
-  whole-most = go (near .step)
+  whole : (a b : ℕ) → 2 * (a * s) ≤ 2 * (b * s) + near .u → (H * near .u ≤ e * s → Most 1 (a * s) (b * s)) → Most 1 a b
+  whole a b half fine = go (near .step)
     where
-      go : (near .u ≡ s) ⊎ (H * near .u ≤ e * s) → Most 1 g e
-      go (inl z) = no-more g e (halved g e s s0 (rw z at (near .up)))
-      go (inr fine) = without s s0 (fine-most near fine)
+      go : (near .u ≡ s) ⊎ (H * near .u ≤ e * s) → Most 1 a b
+      go (inl z) = no-more a b (halved a b s s0 (rw z at half))
+      go (inr h) = without s s0 (fine h)
+
+  pub whole-most : Most 1 g e
+  whole-most = whole g e (near .up) (fine-most near)
 
   pub whole-least : Most 1 e g
-  whole-least = go (near .step)
-    where
-      go : (near .u ≡ s) ⊎ (H * near .u ≤ e * s) → Most 1 e g
-      go (inl z) = no-more e g (halved e g s s0 (rw z at (near .down)))
-      go (inr fine) = without s s0 (fine-least near fine)
+  whole-least = whole e g (near .down) (fine-least near)
 
 -- of a product f * d, all in units of 1 / s: one unit goes off or comes on where the product is small
 module _ (p f d s : ℕ) (s0 : 0 < s) (near : Near p (f * d * s) (s * s)) where

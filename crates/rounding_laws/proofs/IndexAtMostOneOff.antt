@@ -4,16 +4,15 @@ use Prim.Native.Nat.{ℕ, _≤_, _<_, _^_}
 use mathlib.Core.Path.{_≡_, refl, sym, ap, _∙_, subst}
 use mathlib.Core.Bool.{false, not}
 use mathlib.Core.List.{List, [], _∷_}
-use native.Mathlib.Omega.{arith}
 use native.Mathlib.Nat.{le-trans, pos-of-ne-zero}
 use lib.Dec.{T, eqb, lit≤}
 use lib.ListN.{length, getD}
 use lib.Ieee.{Float, lt}
 use borrow.Author.Tests.{ltb-false, eqb-false, eqb-true, not-false}
 use Rattle.rules.specs.Sums.{any, list}
-use Rattle.rules.specs.Refusals.{top2, top3, nought, valueUnfit, axisThin, reversed, outside, indexTests, cellBy, sliceBy}
+use Rattle.rules.specs.Refusals.{top2, top3, nought, valueUnfit, axisThin, reversed, outside, indexTests, sliceBy}
 use Rattle.rules.specs.Curve.{plane, space, cell2, cell3, indexOf, decode2, decode3}
-use Rattle.rules.specs.Axis.{lowOf, highOf, orderOf, madeUp, cellOn, cellOf}
+use Rattle.rules.specs.Axis.{lowOf, highOf, orderOf, madeUp, cellOn}
 use Rattle.rules.specs.Knots.{someUnfit, someThin, thinOver, axisOver, Filed, index2Tests, index3Tests, indexAll2, indexAll3}
 use Rattle.rules.specs.declared.Axis.{Axis}
 use Rattle.rules.specs.declared.Axis.the-variants.{Flat, Sloped}
@@ -32,7 +31,7 @@ use Rattle.axis_laws.proofs.AxisAccepts.{ends-of, not-refused}
 use Rattle.given_laws.proofs.NeverForeign.{made-of-ends}
 use Rattle.given_laws.proofs.OverThePoints.{index-all-2d-is-on, index-all-3d-is-on}
 use Rattle.rounding_laws.proofs.ScaledValue.{f64-fits}
-use Rattle.rounding_laws.proofs.CellAtMostOneOff.{made-is-f64, record-at-most-one-off}
+use Rattle.rounding_laws.proofs.CellAtMostOneOff.{on-near, made-is-f64}
 use Rattle.rounding_laws.proofs.KnotAtMostOneOff.{over-is-f64}
 
 -- ONE AXIS: a point that passes its tests has a cell below 2^order, and near
@@ -47,7 +46,7 @@ factor-fits (Sloped low high order factor) f = f64-fits factor (f .2)
 
 on-axis : (order i : ℕ) (g : Given) → foreign order (g .axis) ≡ false → any valueUnfit (g .points) ≡ false → any (outside (lowOf (g .axis)) (highOf (g .axis))) (g .points) ≡ false
     → AxisIsF64 (g .axis) → AllF64 (g .points) → i < length (g .points) → OnAxis (g .axis) order (getD (g .points) i nought)
-unfolding foreign cellOf cellBy
+unfolding foreign
 on-axis order i g own fit within a64 x64 h =
     let a = g .axis in
     let x = getD (g .points) i nought in
@@ -58,7 +57,7 @@ on-axis order i g own fit within a64 x64 h =
     inside-answered (madeUp a) (lowOf a) (highOf a) x (record { made = o .0; value-fit = none-at valueUnfit nought (g .points) fit i h; not-below = d .0; not-above = d .1 }) in
     record {
       below = subst (λ (m : ℕ). cellOn a x < 2 ^ m) same (on-below a x (factor-fits a a64) accepted);
-      near = record-at-most-one-off a x (cellOn a x) a64 (x64 i h) (rw accepted refl);
+      near = on-near a x a64 (x64 i h) accepted;
     }
 
 -- and so on each of several axes of n points

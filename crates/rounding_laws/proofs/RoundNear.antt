@@ -15,10 +15,7 @@ use lib.Ieee.Scale.{round-val, round-under, grid, finite}
 use lib.Ieee.Order.{drop, kept}
 use Rattle.axis_laws.proofs.MulMono.{nonneg, nonneg-finite}
 use Rattle.axis_laws.proofs.ClosestNear.{closest-near}
-
--- 2^52
-abbrev pub H : ℕ
-H = 4503599627370496
+use Rattle.axis_laws.proofs.OneStep.{H}
 
 -- g is n / c rounded: by half a step of u / c at most, and u is c, which is one unit, or one part in 2^52 of n at most
 pub record Near (g n c : ℕ) : Type 0 where
