@@ -1,16 +1,13 @@
 /* count: prints the operations, a line each: name, inputs, points, words.
  * count OPERATION library|plain|empty TIMES: first holds the answers of library and plain C to the operation's inputs
- * together, and ends with status 1 where they differ; then calls the one side for all inputs TIMES times. What a run
- * does besides the calls does not depend on TIMES, a digit, so that the difference of two runs is that of the calls and their
- * loop.
- * count OPERATION requests 0: prints the inputs and answers of an operation that coupe has, as tools/oracle reads them. */
+ * together, and ends with status 1 where they differ; then calls the one side for all inputs TIMES times, a digit. What a run
+ * does besides the calls does not depend on the digit, so that the difference of two runs is that of the calls and their
+ * loop. */
 #include "draw.h"
 #include "empty.h"
 #include "plain.h"
 #include "skarvolm.h"
-#include <inttypes.h>
 #include <stdio.h>
-#include <stdlib.h>
 #include <string.h>
 
 enum { INPUTS = 16, POINTS = 500, CELLS = 65536, NODES = 4095, EVENTS = 100000 };
@@ -316,40 +313,6 @@ static int alike(const struct operation *o) {
     return !answers.refused && memcmp(&others, &answers, sizeof others) == 0;
 }
 
-static void print_numbers(const uint64_t *n, size_t count) {
-    for (size_t i = 0; i < count; i++)
-        printf(" %" PRIu64, n[i]);
-}
-
-static void print_words(const uint32_t *n, size_t count) {
-    for (size_t i = 0; i < count; i++)
-        printf(" %" PRIu32, n[i]);
-}
-
-/* the inputs and the answers of an encoder of so many coordinates, or of a halving of so many sides; above order 30 coupe's
- * encoder loses its top digits */
-static void print_requests(const struct operation *o) {
-    uint32_t dimension = o->run == run_encode_2d || o->run == run_rcb_2d ? 2 : 3;
-    if ((o->run == run_encode_2d || o->run == run_encode_3d) && o->order <= 30)
-        for (uint32_t k = 0; k < o->inputs; k++) {
-            printf("encode%" PRIu32, dimension);
-            for (uint32_t a = 0; a < dimension; a++)
-                print_numbers(&numbers[a][k], 1);
-            printf(" %" PRIu32 " = %" PRIu64 "\n", o->order, answers.wide[0][k]);
-        }
-    if (o->run == run_rcb_2d || o->run == run_rcb_3d) {
-        printf("rcb%" PRIu32, dimension);
-        print_words(o->sides, dimension);
-        print_words(&o->order, 1);
-        print_numbers(weights, cells_of(o));
-        printf(" =");
-        print_words(answers.splits, nodes_of(o));
-        printf(" /");
-        print_words(answers.ids, cells_of(o));
-        printf("\n");
-    }
-}
-
 int main(int argc, char **argv) {
     if (argc == 1) {
         for (int i = 0; i < OPERATIONS; i++)
@@ -365,14 +328,10 @@ int main(int argc, char **argv) {
             fprintf(stderr, "count: the answers of %s differ\n", o->name);
             return 1;
         }
-        if (argv[2][0] == 'r') {
-            print_requests(o);
-            return 0;
-        }
         const struct side *s = argv[2][0] == 'l' ? &library : argv[2][0] == 'p' ? &plain : &empty;
-        o->run(s, o, o->inputs * (uint32_t)strtoul(argv[3], NULL, 10));
+        o->run(s, o, o->inputs * (uint32_t)(argv[3][0] - '0'));
         return 0;
     }
-    fprintf(stderr, "usage: count [OPERATION library|plain|empty|requests TIMES]\n");
+    fprintf(stderr, "usage: count [OPERATION library|plain|empty TIMES]\n");
     return 2;
 }

@@ -32,6 +32,8 @@ impl Default for HilbertCurve {
 
 impl HilbertCurve {
     /// The index of a cell. Refuses by [`Refused::Order`], [`Refused::Coordinate`].
+    ///
+    /// Each call fills a table of 16,384 entries; for many points [`HilbertCurve::index_2d`] fills it once.
     pub fn encode_2d(self, x: u64, y: u64) -> Result<u64, Refused> {
         let mut index = 0;
         // SAFETY: `index` is a live u64 that nothing else refers to.

@@ -1,13 +1,12 @@
 // The 2D and the 3D Hilbert curve: the bit deposit, a cell's index, and an index's cell.
 //
-// A machine goes over a cell's coordinates from the top level down: of its state and the quadrant that it meets (x's bit above y's, y's above z's) it
-// writes a digit of the index, and goes on in the next state (rules' Curve).
+// A cell's coordinates are laid bit by bit side by side (z-order, x's bit above y's, y's above z's), and a machine goes over them from the top
+// level down: of its state and the quadrant that it meets it writes a digit of the index, and goes on in the next state (rules' Curve).
 //
-//   spread                    deposit
-//   encoding_2d, decoding_2d  three levels at once
-//   encoding_3d, decoding_3d  two levels at once, by the rows of `encoding_rows_3d`, `decoding_rows_3d`
-//
-// (Over many cells of the plane: crate `encoding_by_table`, six levels at once by the table of 01, which is made once and lent.)
+//   spread                    deposit, and the z-order of a cell
+//   encoding_2d               six levels at once, by the table of `curve_table`
+//   encoding_3d               level by level, by the table of 01
+//   decoding_2d, decoding_3d  level by level, by the inverses of the table's rows
 //
 // A caller may rely on (crate curve_laws): decode after encode gives the cell and encode after decode the index (Demand2, `decode_encode_2d`
 // and so on); no two cells share an index (`no_two_cells_share_an_index`); an index is below 2^(d * order), a coordinate below 2^order

@@ -18,4 +18,5 @@ pub mod Interleave
 pub mod SpreadInSteps
 pub mod OntoCombs
 pub mod Shifts
+pub mod DecodeTurn
 pub mod Tabulated

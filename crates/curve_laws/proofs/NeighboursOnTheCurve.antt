@@ -8,7 +8,7 @@ use mathlib.Core.Path.{◌≡◌, refl, sym, ap, ap₂, ◌∙◌}
 use mathlib.Core.Bool.{Bool, ◌&&◌}
 use native.Mathlib.Omega.{arith}
 use native.Mathlib.Decide.{ℕ_discrete}
-use native.Mathlib.Nat.{zero-mul, one-mul, mul-zero, mul-add, suc-mul, pow-suc, zero-mod, mod-lt, mod-eq_of_lt, div-add-mod', lt_of_mul-lt-mul_right}
+use native.Mathlib.Nat.{zero-mul, one-mul, mul-zero, mul-add, suc-mul, pow-suc, zero-div, zero-mod, mod-lt, mod-eq_of_lt, div-add-mod', lt_of_mul-lt-mul_right}
 use native.Mathlib.Numerals.{add-one}
 use lib.Dec.{T, eqb, eqb→eq}
 use lib.Arith.{digits_div, digits_mod}
@@ -18,7 +18,7 @@ use Rattle.rules.specs.Curve.{Machine, part, bit, level, seek_digit, undo, decod
 use Rattle.rules.specs.Demands.{apart, Neighbours2, Ends2, Neighbours3, Ends3}
 use Rattle.rules.proofs.CornersMeet.{distance, inside, keeps, gap, connected, connects, plane_connects, space_connects}
 use Rattle.curve_laws.proofs.All.{left, right, all-at}
-use Rattle.curve_laws.proofs.Parts.{part_lt, part_zero, more, below, level_more}
+use Rattle.curve_laws.proofs.Parts.{part_lt, more, below, level_more}
 use Rattle.curve_laws.proofs.Permutes.{permutes, row, plane_permutes, plane_start, space_permutes, space_start}
 use Rattle.curve_laws.proofs.Groups.{level_mod}
 use Rattle.curve_laws.proofs.Refusals.{decode2_cell, decode3_cell}
@@ -84,7 +84,10 @@ rolls n {D} p h =
     let e : suc n ≡ suc (n / D) * D + 0 = omega (arith, div-add-mod' n D, suc-mul (n / D) D) in
     (rw e (digits_div (suc (n / D)) p), rw e (digits_mod (suc (n / D)) p))
 
--- the parts of 2^n - 1 are full
+-- the parts of 0 are 0, those of 2^n - 1 are full
+part_zero : (w m : ℕ) → part w m 0 ≡ 0
+part_zero w m = ap (λ (x : ℕ). x % 2 ^ w) (zero-div (2 ^ m)) ∙ zero-mod (2 ^ w)
+
 part_full : (w m n : ℕ) → m + w ≤ n → part w m (2 ^ n - 1) ≡ 2 ^ w - 1
 part_full w m n h =
     let r : ℕ = n - w - m in

@@ -3,7 +3,7 @@ use Prim.Native.Nat.{ℕ, zero, suc, ◌+◌, ◌-◌, ◌*◌, ◌/◌, ◌%◌
 use mathlib.Core.Path.{◌≡◌, refl, sym, ap, ap₂, ◌∙◌, subst}
 use native.Mathlib.Omega.{arith}
 use native.Mathlib.Decide.{ℕ_discrete}
-use native.Mathlib.Nat.{zero-div, zero-mod, mod-eq_of_lt, mod-lt, mul-add, mul-suc}
+use native.Mathlib.Nat.{mod-eq_of_lt, mod-lt, mul-add, mul-suc}
 use lib.Dec.{lit<}
 use lib.Arith.{digits_lt}
 use lib.Pow.{pow_pos, pow-add, high, low, field, mod-mod-pow, mod-pow-add}
@@ -11,9 +11,6 @@ use Rattle.rules.specs.Curve.{part, bit, level, quadrant}
 
 pub part_lt : (w m n : ℕ) → part w m n < 2 ^ w
 part_lt w m n = mod-lt (n / 2 ^ m) (pow_pos w)
-
-pub part_zero : (w m : ℕ) → part w m 0 ≡ 0
-part_zero w m = ap (λ (x : ℕ). x % 2 ^ w) (zero-div (2 ^ m)) ∙ zero-mod (2 ^ w)
 
 -- what stands above and below place m
 pub part_top : (w m : ℕ) {D R : ℕ} → D < 2 ^ w → R < 2 ^ m → part w m (D * 2 ^ m + R) ≡ D
@@ -56,9 +53,9 @@ pub quadrant_lt : (d k : ℕ) (c : ℕ → ℕ) → quadrant d k c < 2 ^ d
 quadrant_lt zero k c = lit< tt
 quadrant_lt (suc d) k c = bit_lt d (part_lt 1 k (c d)) (quadrant_lt d k c)
 
-pub quadrant_same : (d k m : ℕ) (b c : ℕ → ℕ) → ((e : ℕ) → e < d → bit k (b e) ≡ bit m (c e)) → quadrant d k b ≡ quadrant d m c
-quadrant_same zero k m b c h = refl
-quadrant_same (suc d) k m b c h = ap₂ (λ (x y : ℕ). x * 2 ^ d + y) (h d (omega arith)) (quadrant_same d k m b c (λ e l. h e (omega arith)))
+pub quadrant_same : (d k : ℕ) (b c : ℕ → ℕ) → ((e : ℕ) → bit k (b e) ≡ bit k (c e)) → quadrant d k b ≡ quadrant d k c
+quadrant_same zero k b c h = refl
+quadrant_same (suc d) k b c h = ap₂ (λ (x y : ℕ). x * 2 ^ d + y) (h d) (quadrant_same d k b c h)
 
 -- the bit of axis e is the coordinate's
 pub bit_quadrant : (d k e : ℕ) (c : ℕ → ℕ) → e < d → bit e (quadrant d k c) ≡ bit k (c e)

@@ -100,7 +100,7 @@ module _ {d : ℕ} (M : Machine d) (t : T (permutes M)) where
       ap (λ (x : ℕ). M.digit s x * 2 ^ (d * k) + encode M k (M.next s x) (λ j. quadrant d j B)) a
       ∙ ap₂ (λ (x y : ℕ). x * 2 ^ (d * k) + y) w.redone
       (encode_same M k s' (λ j. quadrant d j B) (λ j. quadrant d j C)
-      (λ j l. quadrant_same d j j B C (λ e _. part_low 1 j k (bit e q) (omega arith) (decode_lt M e k s' g)))
+      (λ j l. quadrant_same d j B C (λ e. part_low 1 j k (bit e q) (omega arith) (decode_lt M e k s' g)))
       ∙ back k s' g v.next_lt h)
 
   module _ (start : 0 < M.states) where

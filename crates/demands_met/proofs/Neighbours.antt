@@ -1,6 +1,6 @@
 -- REQUEST 13/14 of the functions: whatever fits the contract of a decoder at an index and whatever fits it at the next are neighbouring cells; what
 -- fits it at index 0 and at the last index are the curve's ends. Assumes nothing.
-use Prim.Native.Nat.{◌+◌, ◌-◌, ◌^◌, ◌≤◌, ◌<◌}
+use Prim.Native.Nat.{ℕ, ◌+◌, ◌-◌, ◌^◌, ◌≤◌, ◌<◌}
 use mathlib.Core.Path.{◌≡◌}
 use Rattle.rules.specs.Refusals.{top2, top3}
 use Rattle.rules.specs.Demands.{Beside2, Beside3}

@@ -1,5 +1,4 @@
 pub mod Way
-pub mod Runs
 pub mod Rows
 pub mod Ids
 pub mod Once

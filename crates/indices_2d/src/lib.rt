@@ -1,7 +1,7 @@
 // Writing the index of every point in 2D on axes that take them, inside: `knots_2d` and `given_2d` call it.
 //
 // The knot of a point is its cell on each axis, its index that of the knot on the curve. No point is refused, since each axis accepts it
-// and its cells lie below 2^order, so that the walk is called without the encoder's tests; the whole index slice is written (write_2d_only).
+// and its cells lie below 2^order; the whole index slice is written (write_2d_only).
 ghost use Rattle.std.specs.Prelude.{◌≡◌, ◌≤◌, length};
 ghost use Rattle.rules.specs.Sums.{list};
 ghost use Rattle.rules.specs.Refusals.{top2};
@@ -9,7 +9,7 @@ ghost use Rattle.rules.specs.Curve.{plane, cell2, index_of};
 ghost use Rattle.points.specs.Takes.{cell_at, Takes};
 
 use axis_cell::cell_on;
-use rules::{ANSWERED, Axis};
+use rules::{ANSWERED, Axis, Coded};
 
 // Writes the index of each point; 0, for no point is refused.
 pub fn write_2d(
@@ -31,7 +31,14 @@ pub fn write_2d(
     for i in 0..xs.len() {
         let x = cell_on(xaxis, xs[i]);
         let y = cell_on(yaxis, ys[i]);
-        indices[i] = encoding_by_table::index_with(&table, x, y, order);
+        match encoding_2d::encode_2d_with(&table, x, y, order) {
+            Coded::Index(index) => {
+                indices[i] = index;
+            }
+            Coded::Refused(number) => {
+                return number;
+            }
+        }
     }
     ANSWERED
 }

@@ -1,7 +1,7 @@
 // Writing the index of every point in 3D on axes that take them, inside: `knots_3d` and `given_3d` call it.
 //
 // The knot of a point is its cell on each axis, its index that of the knot on the curve. No point is refused, since each axis accepts it
-// and its cells lie below 2^order, so that the walk is called without the encoder's tests; the whole index slice is written (write_3d_only).
+// and its cells lie below 2^order; the whole index slice is written (write_3d_only).
 ghost use Rattle.std.specs.Prelude.{◌≡◌, ◌≤◌, length};
 ghost use Rattle.rules.specs.Sums.{list};
 ghost use Rattle.rules.specs.Refusals.{top3};
@@ -9,7 +9,7 @@ ghost use Rattle.rules.specs.Curve.{space, cell3, index_of};
 ghost use Rattle.points.specs.Takes.{cell_at, Takes};
 
 use axis_cell::cell_on;
-use rules::{ANSWERED, Axis};
+use rules::{ANSWERED, Axis, Coded};
 
 // Writes the index of each point; 0, for no point is refused.
 pub fn write_3d(
@@ -34,7 +34,14 @@ pub fn write_3d(
         let x = cell_on(xaxis, xs[i]);
         let y = cell_on(yaxis, ys[i]);
         let z = cell_on(zaxis, zs[i]);
-        indices[i] = encoding_3d::walk_3d(x, y, z, order);
+        match encoding_3d::encode_3d(x, y, z, order) {
+            Coded::Index(index) => {
+                indices[i] = index;
+            }
+            Coded::Refused(number) => {
+                return number;
+            }
+        }
     }
     ANSWERED
 }

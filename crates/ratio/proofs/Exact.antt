@@ -1,8 +1,9 @@
 -- Digits up to 2 ^ 53 over and times a power of ten that is a float exactly. Assumes nothing.
-use Prim.Native.Nat.{ℕ, ◌*◌, ◌^◌, ◌≤◌}
+use Prim.Native.Nat.{ℕ, zero, suc, ◌*◌, ◌^◌, ◌≤◌}
 use mathlib.Core.Path.{◌≡◌, sym, ap, ◌∙◌, subst}
 use mathlib.Core.Bool.{Bool, false}
 use native.Mathlib.Nat.{zero-mul, zero-lt-suc, one-mul}
+use native.Mathlib.Omega.{arith}
 use lib.Ieee.{Float, binary64, round, mul, div}
 use lib.Ieee.Back.{round_whole}
 use lib.Ieee.Exact.{HasValue}
@@ -26,3 +27,15 @@ none_over s k = round_same binary64 s 0 1 0 (10 ^ k) (zero-lt-suc 0) (tens_pos k
 -- ---- the arms of a match that lists the powers of ten
 pub arm : {k i : ℕ} {x : Float} → i ≡ k → HasValue x false (10 ^ k) 1 → Tens i x
 arm {k} {i} {x} e h = subst (λ (n : ℕ). Tens n x) (sym e) (record { value = h })
+
+-- x is none of 0 to n - 1
+abbrev pub NoneOf : ℕ → ℕ → Type 0
+NoneOf zero x = Unit
+NoneOf (suc n) x = NoneOf n x × (x ≡ n → ⊥)
+
+above : (n : ℕ) {x : ℕ} → NoneOf n x → n ≤ x
+above zero h = omega arith
+above (suc n) h = let a = above n h.0 in let b = h.1 in omega arith
+
+pub last : (n : ℕ) {x : ℕ} → x ≤ n → NoneOf n x → x ≡ n
+last n l h = let a = above n h in omega arith

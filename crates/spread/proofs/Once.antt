@@ -8,6 +8,8 @@ use Rattle.spread.proofs.deposit.Kinds as deposit-kinds
 use Rattle.spread.proofs.deposit.Reads as deposit-reads
 use Rattle.spread.proofs.zorder_2d.Kinds as zorder-2d-kinds
 use Rattle.spread.proofs.zorder_2d.Reads as zorder-2d-reads
+use Rattle.spread.proofs.zorder_3d.Kinds as zorder-3d-kinds
+use Rattle.spread.proofs.zorder_3d.Reads as zorder-3d-reads
 
 pub deposit_only : Only deposit-kinds.ps deposit-kinds.r deposit-reads.Post
 deposit_only κs a y z e f p q = same p q
@@ -29,3 +31,6 @@ one_interleaved {d} {order} {y} {z} p q =
 
 pub zorder_2d_only : Only zorder-2d-kinds.ps zorder-2d-kinds.r zorder-2d-reads.Post
 zorder_2d_only κs a y z e f p q = one_interleaved p q
+
+pub zorder_3d_only : Only zorder-3d-kinds.ps zorder-3d-kinds.r zorder-3d-reads.Post
+zorder_3d_only κs a y z e f p q = one_interleaved p q

@@ -1,17 +1,18 @@
 // Bits spread out: the deposit, and the z-order of a cell.
 //
 // In the z-order a level's bits stand side by side, x's above y's, y's above z's: in 2D bit 2 * k + 1 is bit k of x, and bit 2 * k that of y;
-// in 3D bits 3 * k + 2, 3 * k + 1 and 3 * k are those of x, y and z. (The z-order in 3D is left to callers of the deposit.)
+// in 3D bits 3 * k + 2, 3 * k + 1 and 3 * k are those of x, y and z.
 //
 // So x and y go onto the masks 0xaaaa_aaaa_aaaa_aaaa and 0x5555_5555_5555_5555, and in 3D x, y and z onto 0x4924_9249_2492_4924,
 // 0x2492_4924_9249_2492 and 0x9249_2492_4924_9249. On these masks bits are spread in steps, without a loop: a run of 32 bits becomes two runs of 16,
 // then four of 8, until the bits stand alone, two or three places apart. What has no room in 64 bits goes over the top.
 //
 // A caller may rely on: level k of the z-order is the cell's quadrant of level k, and nothing stands above the order's levels (`Interleaved`);
-// each contract leaves one answer (proofs/Once.antt, `deposit_only`, `zorder_2d_only`). z's mask alone has 22 bits, and bit 21 of
+// each contract leaves one answer (proofs/Once.antt, `deposit_only`, `zorder_2d_only`, `zorder_3d_only`). z's mask alone has 22 bits, and bit 21 of
 // a source comes to stand at bit 63 (proofs/Masks.antt, `bit_21_at_63`).
 ghost use Rattle.std.specs.Prelude.{◌≡◌, ◌*◌, ◌/◌, ◌%◌, ◌^◌, ◌<◌, ◌≤◌, bit_and, bit_or};
-ghost use Rattle.rules.specs.Curve.{deposit_of, cell2};
+ghost use Rattle.rules.specs.Refusals.{top3};
+ghost use Rattle.rules.specs.Curve.{deposit_of, cell2, cell3};
 ghost use Rattle.spread.specs.Depositing.{comes_to};
 ghost use Rattle.spread.specs.Interleaved.{Interleaved};
 
@@ -106,4 +107,12 @@ pub fn zorder_2d(x: u64, y: u64, order: u32) -> u64
     ensures { Interleaved 2 order (cell2 x y) result }
 {
     (spread_2d(x) << 1) | spread_2d(y)
+}
+
+// The bits of x, y and z side by side.
+pub fn zorder_3d(x: u64, y: u64, z: u64, order: u32) -> u64
+    requires { (order ≤ top3) × (x < 2 ^ order) × (y < 2 ^ order) × (z < 2 ^ order) }
+    ensures { Interleaved 3 order (cell3 x y z) result }
+{
+    (spread_3d(x) << 2) | (spread_3d(y) << 1) | spread_3d(z)
 }

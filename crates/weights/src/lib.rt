@@ -4,13 +4,14 @@ ghost use Rattle.rules.specs.Refusals.{weight_over};
 
 use rules::TOP_WEIGHT;
 
-// Whether a weight is too heavy: the heaviest that is not has all its bits set, so that the bits of all weights together tell.
+// Whether a weight is too heavy.
 pub fn weight_over(weights: &[u64]) -> bool
     ensures { result ≡ weight_over weights.now }
 {
-    let mut bits: u64 = 0;
     for i in 0..weights.len() {
-        bits = bits | weights[i];
+        if weights[i] > TOP_WEIGHT {
+            return true;
+        }
     }
-    bits > TOP_WEIGHT
+    false
 }

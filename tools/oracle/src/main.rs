@@ -2,8 +2,6 @@
 //!
 //! `oracle answer` prints each request with its answer behind ` = `. `oracle compare` reads such lines from another
 //! program, answers the requests itself, and prints how many agree of each kind and the first differences.
-//! `oracle count TIMES` and `oracle time TIMES` read them and make each one's call so many times (calls.rs), to be measured
-//! from outside: `count` on one thread, `time` on as many as the answers need.
 //!
 //! | request | answer |
 //! |---|---|
@@ -16,7 +14,6 @@
 
 #![allow(dead_code, unexpected_cfgs, clippy::all)]
 
-mod calls;
 mod cartesian;
 mod hilbert_curve;
 mod nextafter;
@@ -32,17 +29,13 @@ use std::num::NonZeroUsize;
 
 const UNCUT: u64 = 4294967295;
 
-/// More threads than half of `side`, so that each chunk of the median is one line.
-fn threads_for(side: usize) -> usize {
-    (side / 2 + 1).next_power_of_two()
-}
-
 /// The pools of threads made so far, by their count.
 struct Pools(BTreeMap<usize, rayon::ThreadPool>);
 
 impl Pools {
+    /// Runs `f` with more threads than half of `side`, so that each chunk of the median is one line.
     fn run<R: Send>(&mut self, side: usize, f: impl FnOnce() -> R + Send) -> R {
-        self.run_in(threads_for(side), f)
+        self.run_in((side / 2 + 1).next_power_of_two(), f)
     }
 
     fn run_in<R: Send>(&mut self, threads: usize, f: impl FnOnce() -> R + Send) -> R {
@@ -136,16 +129,11 @@ fn answer(request: &str, pools: &mut Pools) -> Option<String> {
 }
 
 fn main() -> io::Result<()> {
-    let words: Vec<String> = std::env::args().skip(1).collect();
-    let words: Vec<&str> = words.iter().map(String::as_str).collect();
-    let times = words.get(1).and_then(|w| w.parse().ok());
-    let compare = match (&words[..], times) {
-        (["answer"], _) => false,
-        (["compare"], _) => true,
-        (["count", _], Some(times)) => calls::on_one_thread(calls::read()?, times),
-        (["time", _], Some(times)) => return Ok(calls::on_threads(calls::read()?, times)),
+    let compare = match std::env::args().nth(1).as_deref() {
+        Some("answer") => false,
+        Some("compare") => true,
         _ => {
-            eprintln!("usage: oracle answer|compare|count TIMES|time TIMES <REQUESTS");
+            eprintln!("usage: oracle answer|compare <REQUESTS");
             std::process::exit(2);
         }
     };

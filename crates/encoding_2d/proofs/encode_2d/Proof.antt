@@ -1,38 +1,13 @@
--- `encode_2d` meets its contract: each way out has the tests that lead there. Assumes nothing.
-use Prim.Native.Nat.{◌≤◌}
-use mathlib.Core.Path.{◌∙◌, ap, sym}
-use native.Mathlib.Omega.{arith}
+-- `encode_2d` meets its contract: it lends a table that keeps the rule. Assumes nothing.
 use borrow.Author.Rules.{rules}
-use Rattle.rules.specs.declared.Coded.TheVariants.{Index}
-use Rattle.curve_laws.proofs.Refusals.{encode2_order, encode2_x, encode2_y, encode2_index}
-use Rattle.curve_laws.proofs.Shifts.{off_side, on_side}
 use Rattle.encoding_2d.proofs.encode_2d.Statement.{statement}
 use Rattle.encoding_2d.proofs.encode_2d.Tie as tie
 
+encode-2d-with-requires : tie.Need-encode-2d-with-requires
+encode-2d-with-requires c κs = c.before.table.ensures
+
 returns : tie.Need-returns
-returns c = sym (encode2_order _ _ _ c.if1.true)
-
-returns-2 : tie.Need-returns-2
-returns-2 c =
-    let o : _ ≤ _ = c.before.if1.false in
-    sym (encode2_x _ _ _ o (off_side _ _ _ o tt c.if2.true))
-
-returns-3 : tie.Need-returns-3
-returns-3 c =
-    let o : _ ≤ _ = c.before.before.if1.false in
-    sym (encode2_y _ _ _ o (on_side _ _ _ o tt c.before.if2.false) (off_side _ _ _ o tt c.if3.true))
-
-walk-2d-requires : tie.Need-walk-2d-requires
-walk-2d-requires c κs =
-    let o : _ ≤ _ = c.before.before.if1.false in
-    (omega arith, on_side _ _ _ o tt c.before.if2.false, on_side _ _ _ o tt c.if3.false)
-
-returns-4 : tie.Need-returns-4
-returns-4 c =
-    let tests = c.before in
-    let o : _ ≤ _ = tests.before.before.if1.false in
-    ap Index c.walk-2d.ensures
-    ∙ sym (encode2_index _ _ _ o (on_side _ _ _ o tt tests.before.if2.false) (on_side _ _ _ o tt tests.if3.false))
+returns c = c.encode-2d-with.ensures
 
 pub encode-2d-spec : {M : Type 1} → statement M
-encode-2d-spec = tie.close (tie.spec returns (λ c. search rules) returns-2 returns-3 walk-2d-requires returns-4)
+encode-2d-spec = tie.close (tie.spec (λ c κs. search rules) encode-2d-with-requires returns)

@@ -1,80 +1,63 @@
 -- `walk_2d` meets its contract: what is done, shifted up, and what the machine makes of the levels to come in the state that is reached, is the
--- whole index; an entry is three steps of the machine, and those at the zero levels above lead to state 0. Assumes nothing.
-use Prim.Native.Nat.{ℕ, zero, suc, ◌≤◌, ◌<◌, ◌+◌, ◌-◌, ◌*◌, ◌/◌, ◌%◌, ◌^◌}
-use mathlib.Core.Path.{◌≡◌, refl, ap, ◌∙◌, subst}
+-- whole index; an entry of the table is six steps of the machine. Assumes nothing.
+use Prim.Native.Nat.{ℕ, ◌≤◌, ◌<◌, ◌+◌, ◌-◌, ◌*◌, ◌/◌, ◌^◌}
+use mathlib.Core.Path.{◌≡◌}
 use native.Mathlib.Omega.{arith}
 use borrow.Author.Rules.{rules}
-use lib.Bits.{and_mask}
-use Rattle.rules.specs.Curve.{part, plane, cell2}
+use lib.Dec.{lit<}
+use lib.Pow.{pow_mono}
+use Rattle.rules.specs.Curve.{level, encode, plane}
+use Rattle.curve_laws.proofs.Parts.{part_lt}
 use Rattle.curve_laws.proofs.Permutes.{plane_permutes, plane_start}
-use Rattle.curve_laws.proofs.Turns.{all_encoded}
-use Rattle.walk_laws.specs.Packed.{packed}
-use Rattle.walk_laws.specs.Entries.{cell_entry}
-use Rattle.walk_laws.proofs.Leading.{plane_leads}
-use Rattle.walk_laws.proofs.CellTurn.{Encoded, encode_start, end_state, cell_turn}
-use Rattle.walk_laws.proofs.Rows.{state_kept}
+use Rattle.curve_laws.proofs.RoundTrip.{encode_lt}
+use Rattle.curve_laws.proofs.Turns.{nothing_done}
+use Rattle.encoding_2d.proofs.GroupTurn.{state_lt, group_next, group_last}
 use Rattle.encoding_2d.proofs.walk_2d.Statement.{statement}
 use Rattle.encoding_2d.proofs.walk_2d.Tie as tie
 
--- m groups to come, in state s
 abbrev invariant-loop : tie.invariant-loop
-invariant-loop x y order left₀ config₀ index₀ left config index =
-    (m s : ℕ) × (left ≡ 3 * m) × (left ≤ 33) × (config ≡ 64 * s) × (s < 4) × Encoded plane order (cell2 x y) left s index
+invariant-loop table zorder order left₀ state₀ hilbert₀ left state hilbert =
+    (left ≤ order) × (state < 4)
+    × (hilbert * 2 ^ (2 * left) + encode plane left state (λ k. level 2 k zorder) ≡ encode plane order 0 (λ k. level 2 k zorder))
 
 abbrev decreases-loop : tie.decreases-loop
-decreases-loop x y order left₀ config₀ index₀ left config index = left
+decreases-loop table zorder order left₀ state₀ hilbert₀ left state hilbert = left
 
-in-square : (x y side e : ℕ) → x < side → y < side → cell2 x y e < side
-in-square x y side zero p q = q
-in-square x y side (suc e) p q = p
+-- the whole index fits
+index-fits : (zorder order : ℕ) → order ≤ 32 → encode plane order 0 (λ k. level 2 k zorder) < 2 ^ 64
+index-fits zorder order h =
+    let o : 2 * order ≤ 64 = omega arith in
+    omega (arith, encode_lt plane plane_permutes order 0 (λ k. level 2 k zorder) plane_start (λ k. part_lt 2 (2 * k) zorder), pow_mono o)
 
 loop-holds : tie.Need-loop-init invariant-loop decreases-loop
-loop-holds c =
-    let a = c.args in
-    let left : ℕ = 3 * ((a.order + 2) / 3) in
-    let p : ℕ = left - a.order in
-    let q : p + a.order ≡ left = omega arith in (
-      (a.order + 2) / 3,
-      p % 2,
-      refl,
-      omega (arith, c.requires.0),
-      refl,
-      omega arith,
-      subst (λ (n : ℕ). Encoded plane a.order (cell2 a.x a.y) n (p % 2) 0) q
-          (encode_start plane a.order p (p % 2) (cell2 a.x a.y) (λ e l. in-square a.x a.y _ e c.requires.1 c.requires.2) (plane_leads p (omega arith))),
-    )
+loop-holds c = (omega arith, lit< tt, nothing_done _ _)
 
-three-levels-requires : tie.Need-three-levels-requires invariant-loop decreases-loop
-three-levels-requires c κs = let at = c.before.loop in (omega (arith, at.invariant.4), omega (arith, at.invariant.4, at.invariant.5))
+group-entry-requires : tie.Need-group-entry-requires invariant-loop decreases-loop
+group-entry-requires c κs = (c.before.before.requires.0, c.before.loop.invariant.1)
 
 loop-again : tie.Need-loop-preserved invariant-loop decreases-loop
 unfolding plane
 loop-again c =
     let at = c.before.before.loop in
-    let start = c.before.before.before in
-    let a = start.args in
-    let e : ℕ = c.three-levels.result in
-    let s : ℕ = at.invariant.1 in
-    let k : ℕ = at.left - 3 in
-    let q : at.left ≡ 3 + k = omega (arith, at.invariant.2) in
-    let w : e ≡ cell_entry plane 3 (64 * s + packed 3 2 (λ j. part 3 k (cell2 a.x a.y j))) =
-    c.three-levels.ensures ∙ ap (cell_entry plane 3) (omega (arith, at.invariant.4, and_mask (a.x / 2 ^ k) 3, and_mask (a.y / 2 ^ k) 3))
-    in
-    let l : e / 64 < 4 = end_state plane plane_permutes a.order 3 k s e (cell2 a.x a.y) at.invariant.5 w in (
-      at.invariant.0 - 1,
-      e / 64,
-      omega (arith, at.invariant.2),
-      omega (arith, at.invariant.3),
-      state_kept 2 e l,
-      l,
-      cell_turn plane plane_permutes a.order 3 k s e (cell2 a.x a.y) at.invariant.5 w at.index plane_start (omega (arith, start.requires.0))
-          (subst (λ (n : ℕ). Encoded plane a.order (cell2 a.x a.y) n s at.index) q at.invariant.6),
+    let a = c.before.before.before.args in
+    let e : ℕ = c.group-entry.result in
+    let w = c.group-entry.ensures in
+    let p : 6 ≤ at.left = omega arith in (
+      omega arith,
+      state_lt (a.zorder / 2 ^ (2 * (at.left - 6))) at.state e at.invariant.1 w,
+      group_next a.zorder at.left at.state e at.hilbert _ p at.invariant.1 w (index-fits a.zorder a.order c.before.before.before.requires.1) at.invariant.2,
     )
 
+group-entry-requires-2 : tie.Need-group-entry-requires-2 invariant-loop decreases-loop
+group-entry-requires-2 c κs = (c.before.before.requires.0, c.before.loop.invariant.1)
+
 returns : tie.Need-returns invariant-loop decreases-loop
+unfolding plane
 returns c =
-    let at = c.before.loop in
-    all_encoded plane at.left at.invariant.1 _ at.index _ c.loop-test.false at.invariant.6
+    let at = c.before.before.loop in
+    let a = c.before.before.before.args in
+    group_last a.zorder at.left at.state c.group-entry2.result at.hilbert _ c.before.loop-test.false at.invariant.1
+    c.group-entry2.ensures (index-fits a.zorder a.order c.before.before.before.requires.1) at.invariant.2
 
 pub walk-2d-spec : {M : Type 1} → statement M
 walk-2d-spec =
@@ -82,18 +65,24 @@ walk-2d-spec =
     (tie.spec
     invariant-loop
     decreases-loop
-    (λ c. search rules)
-    (λ c. search rules)
-    (λ c. search rules)
-    (λ c. search rules)
-    (λ c. search rules)
     loop-holds
     (λ c. search rules)
     (λ c. search rules)
     (λ c. search rules)
     (λ c. search rules)
+    group-entry-requires
     (λ c. search rules)
-    three-levels-requires
     (λ c. search rules)
     loop-again
+    (λ c. search rules)
+    (λ c. search rules)
+    (λ c. search rules)
+    (λ c. search rules)
+    group-entry-requires-2
+    (λ c. search rules)
+    (λ c. search rules)
+    (λ c. search rules)
+    (λ c. search rules)
+    (λ c. search rules)
+    (λ c. search rules)
     returns)

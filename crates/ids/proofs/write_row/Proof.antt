@@ -1,42 +1,46 @@
--- `write_row` meets its contract: the cells passed have their ids, those up to `until` the id that is held, and the others what they held.
-use Prim.Native.Nat.{◌-◌}
+-- `write_row` meets its contract: the cells passed have their ids, and the others what they held.
+use Prim.Native.Nat.{◌+◌, ◌-◌, ◌≤◌}
 use native.Mathlib.Omega.{arith}
 use mathlib.Core.Path.{◌≡◌, refl, ◌∙◌}
-use mathlib.Core.Logic.{⊎_elim}
-use mathlib.Core.List.{append-nil}
-use lib.ListN.{length}
+use mathlib.Core.List.{◌++◌, append-nil}
+use lib.ListN.{length, drop, length-set}
 use lib.Seq.{drop-length}
 use borrow.Author.Rules.{rules}
+use Rattle.rules.specs.Sums.{list}
 use Rattle.ids.specs.Ids.{id_on}
-use Rattle.ids.proofs.Runs.{Row, unwritten, held_anew, one_more}
+use Rattle.laws.proofs.Lists.{list_more}
 use Rattle.ids.proofs.write_row.Statement.{statement}
 use Rattle.ids.proofs.write_row.Tie as tie
 
 abbrev invariant-loop : tie.invariant-loop
-invariant-loop row₀ splits depth n first y z end id₀ until₀ x₀ row id until x = Row (λ x. id_on splits n depth first x y z) row₀ row id until x
+invariant-loop row₀ splits depth n first y z x₀ x-end row x =
+    (x ≤ length row₀) × (x-end ≡ length row₀) × (length row ≡ length row₀) × (row ≡ list (λ x. id_on splits n depth first x y z) x ++ drop x row₀)
 
 abbrev decreases-loop : tie.decreases-loop
-decreases-loop row₀ splits depth n first y z end id₀ until₀ x₀ row id until x = length row₀ - x
+decreases-loop row₀ splits depth n first y z x₀ x-end row x = length row₀ - x
 
 loop-holds : tie.Need-loop-init invariant-loop decreases-loop
-loop-holds c = unwritten _ _
+unfolding list
+loop-holds c = (search rules, refl, refl, refl)
 
-run-of-requires : tie.Need-run-of-requires invariant-loop decreases-loop
-run-of-requires c κs = let s = c.before.before.before.before.before.before in (s.requires.0, (s.requires.1, (refl, c.before.before.loop-test.true)))
+part-of-requires : tie.Need-part-of-requires invariant-loop decreases-loop
+part-of-requires c κs = let s = c.before.before.before.before.before in (s.requires.0, (s.requires.1, refl))
 
 loop-again : tie.Need-loop-preserved invariant-loop decreases-loop
 unfolding id_on
 loop-again c =
-    let r = c.before.before.loop.invariant in
-    let l = c.before.loop-test.true in
-    ⊎_elim (λ w. let run = w.2.ensures in rw (w.3, w.4) (one_more (held_anew r _ _ run.begins run.same) l run.begins))
-    (λ w. rw (w.1, w.2) (one_more r l (omega (arith, w.0.left, r.ahead))))
-    c.if1.branch
+    let s = c.before.before.before.before.before.before in (
+      search rules,
+      search rules,
+      simp length-set (search rules),
+      rw (c.before.before.before.loop.invariant.3, c.part_of.ensures)
+          (list_more (λ x. id_on s.args.splits.now s.args.n s.args.depth s.args.first x s.args.y s.args.z) s.args.row.now c.before.before.before.loop.x (omega arith)),
+    )
 
 returns : tie.Need-returns invariant-loop decreases-loop
 returns c =
-    let e : c.before.loop.x ≡ length c.before.before.before.before.args.row.now = omega (arith, c.before.loop.invariant.within) in
-    c.before.loop.invariant.written ∙ rw (e, drop-length) (append-nil _)
+    let e : c.before.loop.x ≡ length c.before.before.before.before.args.row.now = omega arith in
+    c.before.loop.invariant.3 ∙ rw (e, drop-length) (append-nil _)
 
 pub write-row-spec : {M : Type 1} → statement M
 write-row-spec =
@@ -45,7 +49,7 @@ write-row-spec =
     invariant-loop
     decreases-loop
     loop-holds
-    run-of-requires
+    part-of-requires
     (λ c. search rules)
     (λ c. search rules)
     (λ c. search rules)

@@ -1,6 +1,6 @@
 -- `indices_2d::write_2d` meets its contract. The invariant: the slice is the indices of the points before i, and then what it was. No point is
 -- refused, since each axis accepts it and its cells lie below 2^order. Assumes nothing.
-use mathlib.Core.Path.{◌≡◌, refl, ap, ap₂, ◌∙◌}
+use mathlib.Core.Path.{◌≡◌, refl, sym, ap, ap₂, ◌∙◌}
 use mathlib.Core.List.{List}
 use Prim.Native.Nat.{ℕ, ◌≤◌, ◌<◌, ◌-◌}
 use native.Mathlib.Omega.{arith}
@@ -8,8 +8,10 @@ use borrow.Author.Rules.{rules}
 use lib.ListN.{length}
 use lib.Ieee.{Float}
 use Rattle.rules.specs.Sums.{list}
-use Rattle.rules.specs.Curve.{plane, cell2, index_of}
+use Rattle.rules.specs.Curve.{plane, cell2, index_of, encode2}
 use Rattle.rules.specs.declared.Axis.{Axis}
+use Rattle.rules.specs.declared.Coded.TheVariants as coded
+use Rattle.curve_laws.proofs.Refusals.{encode2_index}
 use Rattle.points.specs.Takes.{cell_at}
 use Rattle.points.proofs.Written.{written, written_length, written_whole, written_more}
 use Rattle.points.proofs.Points.{point_read, point_accepted, point_cell}
@@ -39,20 +41,24 @@ start l = l.before.before.before.before.before
 here : (c : tie.In-loop invariant-loop decreases-loop) → c.before.loop.i < length (start c.before).args.xs.now
 here c = let e = c.before.loop.invariant.1 in omega (arith, c.loop-test.true)
 
--- the turn of the loop that the cells belong to
-abbrev turn : tie.After-cell-on2 invariant-loop decreases-loop → tie.In-loop invariant-loop decreases-loop
-turn c = c.before.before.before.before
+-- the turn of the loop that the answer belongs to
+abbrev in-loop : tie.After-encode-2d-with invariant-loop decreases-loop → tie.In-loop invariant-loop decreases-loop
+in-loop c = c.before.before.before.before.before.before
 
--- the cells of point i
-x-is : (c : tie.After-cell-on2 invariant-loop decreases-loop)
-    → let l = (turn c).before in
-    c.before.before.cell-on.result ≡ cell_at (start l).args.xaxis (start l).args.xs.now l.loop.i
-x-is c = c.before.before.cell-on.ensures ∙ point_cell _ _ _ _ (start (turn c).before).pre.1.0 _ (here (turn c))
-
-y-is : (c : tie.After-cell-on2 invariant-loop decreases-loop)
-    → let l = (turn c).before in
-    c.cell-on2.result ≡ cell_at (start l).args.yaxis (start l).args.ys.now l.loop.i
-y-is c = c.cell-on2.ensures ∙ point_cell _ _ _ _ (start (turn c).before).pre.1.1.0 _ (here (turn c))
+-- the answer is the index of point i
+coded-is : (c : tie.After-encode-2d-with invariant-loop decreases-loop)
+    → let l = (in-loop c).before in
+    let a = (start l).args in
+    c.encode-2d-with.result ≡ coded.Index (index a.xaxis a.yaxis a.xs.now a.ys.now a.order l.loop.i)
+coded-is c =
+    let i = in-loop c in
+    let s = start i.before in
+    let x = s.pre.1.0 in
+    let y = s.pre.1.1.0 in
+    let ycell = c.before.before in
+    c.encode-2d-with.ensures
+    ∙ ap₂ (λ (a b : ℕ). encode2 a b s.args.order) (ycell.before.before.cell-on.ensures ∙ point_cell _ _ _ _ x _ (here i)) (ycell.cell-on2.ensures ∙ point_cell _ _ _ _ y _ (here i))
+    ∙ encode2_index _ _ s.args.order s.pre.0 (x.below _ (here i)) (y.below _ (here i))
 
 -- the slice keeps its length
 kept : (l : tie.At-loop invariant-loop decreases-loop) → length l.loop.indices ≡ length (start l).args.indices.now
@@ -60,31 +66,26 @@ kept l =
     let k = (start l).requires.1.1.1 in
     ap length l.loop.invariant.2 ∙ written_length _ _ _ (omega (arith, l.loop.invariant.0))
 
-index-with-requires : tie.Need-index-with-requires invariant-loop decreases-loop
-index-with-requires c κs =
-    let i = turn c.before in
-    let s = start i.before in
-    let x = s.pre.1.0.below _ (here i) in
-    let y = s.pre.1.1.0.below _ (here i) in
-    (i.before.before.table.ensures, s.pre.0, omega (arith, x-is c.before, x), omega (arith, y-is c.before, y))
-
 slice-write-indices : tie.Need-slice-write-indices invariant-loop decreases-loop
 slice-write-indices c =
-    let i = turn c.before.before in
+    let i = in-loop c.before.before.before in
     let k = (start i.before).pre.1.1.1 in
     omega (arith, kept i.before, here i)
 
-loop-again : tie.Need-loop-preserved invariant-loop decreases-loop
-loop-again c =
-    let cells = c.before.before in
-    let i = turn cells in
-    let s = start i.before in
-    let k = s.pre.1.1.1 in
-    let said = c.index-with.ensures ∙ ap₂ (λ (x y : ℕ). index_of plane s.args.order (cell2 x y)) (x-is cells) (y-is cells) in
-    (search rules, i.before.loop.inv.1, written_more _ _ _ _ _ (omega (arith, here i)) i.before.loop.inv.2 said)
-
 returns : tie.Need-returns invariant-loop decreases-loop
 returns c =
+    let e = sym c.before.number.given.1 ∙ coded-is c.before.before.before in
+    let y : ◌≡◌ {A = ℕ} 0 1 = cc in
+    absurd (omega arith)
+
+loop-again : tie.Need-loop-preserved invariant-loop decreases-loop
+loop-again c =
+    let i = in-loop c.before.before.before in
+    let k = (start i.before).pre.1.1.1 in
+    (search rules, i.before.loop.inv.1, written_more _ _ _ _ _ (omega (arith, here i)) i.before.loop.inv.2 (sym c.before.index.given.1 ∙ coded-is c.before.before.before))
+
+returns-2 : tie.Need-returns-2 invariant-loop decreases-loop
+returns-2 c =
     let l = c.before in
     let e = l.loop.invariant.1 in
     (refl, l.loop.invariant.2 ∙ written_whole _ _ _ _ (omega (arith, c.loop-test.false)) l.loop.invariant.0 (start l).requires.1.1.1)
@@ -103,11 +104,15 @@ write-2d-spec =
     (λ c. search rules)
     (λ c. let i = c.before.before.before in point_read _ _ _ _ (start i.before).pre.1.1.0 _ (here i))
     (λ c κs. let i = c.before.before.before in point_accepted _ _ _ _ (start i.before).pre.1.1.0 _ (here i))
-    index-with-requires
+    (λ c κs. let filled = c.before.before.before.before.before.before.before in filled.table.ensures)
+    (λ c. search rules)
     (λ c. search rules)
     slice-write-indices
+    (λ c. search rules)
+    (λ c. kept (in-loop c.before.before.before).before)
+    returns
     (λ c. search rules)
     (λ c. search rules)
     loop-again
     (λ c. kept c.before)
-    returns)
+    returns-2)

@@ -1,9 +1,7 @@
 -- Each arm's float is the power at its key.
 use mathlib.Core.Path.{refl}
-use native.Mathlib.Omega.{arith}
 use lib.Ieee.{of_bits}
-use Rattle.laws.proofs.LastArm.{last_arm}
-use Rattle.ratio.proofs.Exact.{arm}
+use Rattle.ratio.proofs.Exact.{arm, last}
 use Rattle.ratio.proofs.power_of_ten.Statement.{statement}
 use Rattle.ratio.proofs.power_of_ten.Tie as tie
 
@@ -97,7 +95,7 @@ returns-22 c = arm c.match.keys22 (refl, refl)
 
 returns-23 : tie.Need-returns-23
 unfolding of_bits
-returns-23 c = arm (last_arm 22 (omega (arith, c.before.requires)) c.match.rest) (refl, refl)
+returns-23 c = arm (last 22 c.before.requires c.match.rest) (refl, refl)
 
 pub power-of-ten-spec : {M : Type 1} → statement M
 power-of-ten-spec =

@@ -1,2 +1,0 @@
-pub mod GroupTurn
-pub mod Once
