@@ -16,6 +16,8 @@
 // and on cell_at_most_one_off of rounding_laws: the cell differs by at most 1 from the whole part of (value - low) * 2^order / (high - low), worked
 // out exactly.
 // Each promise has one answer (`make_axis_only` and so on, proofs/Once.antt of these crates).
+#![tactic(auto)]
+
 pub use axis_cell::cell;
 pub use axis_make::{make_axis, make_axis_default};
 pub use extent::extent_of;

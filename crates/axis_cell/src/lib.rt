@@ -7,6 +7,8 @@
 //   cell-below               the cell of every accepted value lies below 2^order
 //   made_anew, not_made_up   a record is taken for made up unless making it anew gives it back
 //   accepts                  the axis of fit points accepts each of them
+#![tactic(auto)]
+
 ghost use Rattle.std.specs.Prelude.{◌≡◌, false, is_nan};
 ghost use Rattle.rules.specs.Refusals.{first_of, cell_tests, read_cell};
 ghost use Rattle.rules.specs.Axis.{low_of, high_of, order_of, same_bits, made_up, cell_on, cell_of};

@@ -6,6 +6,8 @@
 // A caller may rely on these, of axis_laws:
 //   at_most_one_step        the factor is 2^order / width or the next smaller f64
 //   refused_order_or_thin   the axis of fit points is refused for its order or its width alone
+#![tactic(auto)]
+
 ghost use Rattle.std.specs.Prelude.{◌≡◌, false, ◌≤◌};
 ghost use Rattle.std.specs.Float.{binary64};
 ghost use Rattle.std.specs.Float.Ieee.{to_bits, eq};

@@ -3,6 +3,8 @@
 //
 // The tests are those of the axis, 1, 6, 8, 7, then those of the value, 6, 8 (proofs/Between.antt, `between_refuses`). No second outcome fits
 // (proofs/Once.antt, `cell_only`).
+#![tactic(auto)]
+
 ghost use Rattle.std.specs.Prelude.{◌≡◌};
 ghost use Rattle.rules.specs.Refusals.{read_cell};
 ghost use Rattle.axis_out.specs.Cells.{cell_between};

@@ -6,6 +6,8 @@
 //   block    its low corner and its sides; a cut across an axis leaves the lines before it and the rest
 //
 // A block stands for a block of the rules (as_block), and its parts for the parts of that (block_left, block_right).
+#![tactic(auto)]
+
 ghost use Rattle.std.specs.Prelude.{◌≡◌, ◌+◌, ◌*◌, ◌<◌, ◌≤◌};
 ghost use Rattle.blocks.specs.Blocks as blocks;
 ghost use Rattle.blocks.specs.Blocks.{across, grid_of2, grid_of3, start, left_part, right_part, whole_of};

@@ -6,6 +6,8 @@
 //
 // Both hold where they do with 100 in place of 101 and of 99, and that is asked first, by a shift: (99 w - 200 M) * 2^k <= 99 T, and
 // 101 T <= (101 w + 200 M) * 2^k. Few events need more.
+#![tactic(auto)]
+
 ghost use Rattle.std.specs.Prelude.{◌≡◌, ◌*◌, ◌^◌, ◌≤◌, ◌<◌, ◌&&◌, leb};
 ghost use Rattle.rules.specs.Refusals.{top_depth};
 ghost use Rattle.requests.specs.Replay.{upper, lower};

@@ -6,6 +6,8 @@
 // An answer is the number of refusal, the values, and what the slices hold after the call. `numbers` says how a number is written and
 // `line` how a line is read; `calls` has the calls. For each file that the program is started with it prints how many lines agree, and
 // each line that differs or cannot be read. A new case, or a file of cases, costs no proof.
+#![tactic(auto)]
+
 mod along;
 mod axes;
 mod calls;

@@ -2,6 +2,8 @@
 // mean.
 //
 // Every function is proved safe, and to end; what is written no contract can say, and the gate compares it.
+#![tactic(auto)]
+
 pub mod faults;
 pub mod files;
 pub mod lines;

@@ -12,6 +12,8 @@
 // and so on); no two cells share an index (`no_two_cells_share_an_index`); an index is below 2^(d * order), a coordinate below 2^order
 // (RoundTrip, `index_below`, `coordinate_below`). Each promise has one answer (proofs/Once.antt of each, `encode_2d_only` and so on), and none
 // asks anything of its caller.
+#![tactic(auto)]
+
 pub use decoding_2d::{decode_2d, decode_2d_default};
 pub use decoding_3d::{decode_3d, decode_3d_default};
 pub use encoding_2d::{encode_2d, encode_2d_default};

@@ -2,6 +2,8 @@
 //
 // The script skarvolm knows the commands and hands their words on, each in its place: `report` or another word, the command, the file, the order and
 // the dimension. What is not asked for is an empty word.
+#![tactic(auto)]
+
 mod cells;
 mod list;
 mod picture;

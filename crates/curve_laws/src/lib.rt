@@ -18,3 +18,4 @@
 //   OntoCombs                the deposit onto a comb: bits that stand alone, shifted to its first tooth
 //
 // Parts (bits and levels of a number), All (a test of every number below n) and Or (`bit_or` is associative) serve these.
+#![tactic(auto)]

@@ -3,6 +3,8 @@
 //
 // Number and values are those that the answer stands for (`read_coded` and its like), so that a caller may rely on all that holds of the
 // answer. No second outcome fits (proofs/Once.antt, `encode_2d_only` and so on).
+#![tactic(auto)]
+
 mod three;
 mod two;
 

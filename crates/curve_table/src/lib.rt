@@ -8,6 +8,8 @@
 //
 // State after state is laid by a function that first calls the one for the states before. So the compiler leaves them as four functions of
 // 4,096 constants; laid by one function, all 16,384 are laid out in its caller, and one pass over them takes it half a minute.
+#![tactic(auto)]
+
 ghost use Rattle.std.specs.Prelude.{◌≡◌, ◌+◌, ◌*◌, ◌<◌, length};
 ghost use Rattle.curve_laws.specs.Ruled.{Ruled, RuledBelow, RuledQuarter, RuledState};
 

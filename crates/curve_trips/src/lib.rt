@@ -1,6 +1,8 @@
 // The round trips of demand 2, as programs: a call of an encoder and a decoder, one after the other, on every input.
 //
 // An accepted cell comes back as it went, and so does an accepted index; a refused one comes back as its number of refusal.
+#![tactic(auto)]
+
 ghost use Rattle.std.specs.Prelude.{◌≡◌, [], ◌∷◌};
 ghost use Rattle.rules.specs.Refusals.{first_of, top2, top3, encode_tests, decode_tests, coded_by, cell2_by, cell3_by};
 

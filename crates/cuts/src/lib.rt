@@ -3,6 +3,8 @@
 // The cut is the rule's, and the left weight that is handed on is that of the first part (cut-on); the second part weighs the
 // rest; both lie in the grid (first_sound, second_sound). A cut fills the first sums with the lines' weights, and those behind
 // stay (cut_block_only).
+#![tactic(auto)]
+
 ghost use Rattle.std.specs.Prelude.{◌≡◌, ◌*◌, ◌<◌, length};
 ghost use Rattle.rules.specs.Refusals.{top_side};
 ghost use Rattle.rules.specs.Halving.{edition_of};

@@ -3,6 +3,8 @@
 // A decimal is a sign or none, digits with at most one point before, among or behind them, and perhaps an `e` or `E` with
 // an exponent behind it (crate `exponents`). `step` is `met_step` of its spec: whatever bytes are met, in whatever order, something has
 // been met, if only something wrong, with its place.
+#![tactic(auto)]
+
 ghost use Rattle.std.specs.Prelude.{◌≡◌};
 ghost use Rattle.decimal_steps.specs.Steps.{is_mark, whole_digit, decimal_digit, first_byte, unsigned_byte, whole_byte, decimal_byte, met_step};
 

@@ -4,6 +4,8 @@
 // .5, 5., 2.4e1, 1E-05. `decimal_of` answers the f64 nearest to its exact value (`decimal_of`: one rounding of the digits times
 // or over a power of ten, ties to even), or the place of what stands wrong. Taken are up to 19 digits, nought in front not
 // counted, and with all of them before the point an exponent from -44 to 22.
+#![tactic(auto)]
+
 ghost use Rattle.std.specs.Prelude.{◌+◌, ◌-◌, ◌*◌, ◌≤◌, true, ◌≡◌, length};
 ghost use Rattle.decimals.specs.Decimals.{value_of, powered_of, end_of, met_to, decimal_of, MetBefore, whole_met, decimal_met};
 ghost use Rattle.wholes.specs.Wholes.{is_digit};

@@ -2,6 +2,8 @@
 //
 // A caller may rely on what curve_laws says of `decode2`: `decode_encode_2d`, `encode_decode_2d` (Demand2), and that successive indices have
 // neighbouring cells, `neighbours_2d`, `ends_2d` (NeighboursOnTheCurve); each promise has one answer (proofs/Once.antt, `decode_2d_only` and so on).
+#![tactic(auto)]
+
 ghost use Rattle.std.specs.Prelude.{◌≡◌, ◌+◌, ◌*◌, ◌≤◌, ◌<◌};
 ghost use Rattle.std.specs.Int.Bits.{bit_and};
 ghost use Rattle.rules.specs.Curve.{plane, coordinate_of, decode2, default_order};

@@ -2,6 +2,8 @@
 //
 // A caller may rely on what curve_laws says of `decode3`: `decode_encode_3d`, `encode_decode_3d` (Demand2), and that successive indices have
 // neighbouring cells, `neighbours_3d`, `ends_3d` (NeighboursOnTheCurve); each promise has one answer (proofs/Once.antt, `decode_3d_only` and so on).
+#![tactic(auto)]
+
 ghost use Rattle.std.specs.Prelude.{◌≡◌, ◌+◌, ◌*◌, ◌≤◌, ◌<◌};
 ghost use Rattle.std.specs.Int.Bits.{bit_and};
 ghost use Rattle.rules.specs.Refusals.{top3};

@@ -2,6 +2,8 @@
 // last of what is joined, and colours of parts.
 //
 // Every function is proved safe, and to end; what is written no contract can say, and the gate compares it.
+#![tactic(auto)]
+
 pub mod colours;
 pub mod ends;
 pub mod texts;

@@ -5,6 +5,8 @@
 //
 // A caller may rely on what curve_laws says of `encode2`: `decode_encode_2d`, `encode_decode_2d` (Demand2), `no_two_cells_share_an_index`;
 // each promise has one answer (proofs/Once.antt, `encode_2d_only` and so on).
+#![tactic(auto)]
+
 ghost use Rattle.std.specs.Prelude.{◌≡◌, ◌+◌, ◌*◌, ◌≤◌, ◌<◌};
 ghost use Rattle.std.specs.Int.Bits.{bit_and};
 ghost use Rattle.rules.specs.Curve.{level, encode, group_entry, plane, encode2, default_order};

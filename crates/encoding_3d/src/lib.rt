@@ -2,6 +2,8 @@
 //
 // A caller may rely on what curve_laws says of `encode3`: `decode_encode_3d`, `encode_decode_3d` (Demand2), `no_two_cells_share_an_index`;
 // each promise has one answer (proofs/Once.antt, `encode_3d_only` and so on).
+#![tactic(auto)]
+
 ghost use Rattle.std.specs.Prelude.{◌≡◌, ◌%◌, ◌≤◌, ◌<◌, get_or};
 ghost use Rattle.std.specs.Int.Bits.{bit_and, bit_or};
 ghost use Rattle.rules.specs.Refusals.{top3};

@@ -2,6 +2,8 @@
 //
 // An exponent is a sign or none, and digits. `exponent_step` is `exponent_step` of its spec: whatever bytes are met, something has
 // been met, if only something wrong, with its place. An exponent of a thousand and more is too far, whatever follows.
+#![tactic(auto)]
+
 ghost use Rattle.std.specs.Prelude.{◌≡◌};
 ghost use Rattle.exponents.specs.Exponents.{exponent_digit, exponent_first, exponent_step};
 

@@ -4,6 +4,8 @@
 //   extent_holds                              low and high of fit points hold them all
 //   first_lowest_stays, first_highest_stays   the first of the lowest points is the low end, bit for bit, the first of the highest the high one;
 //   first_zero_stays                          so of 0.0 and -0.0 the first met stays
+#![tactic(auto)]
+
 ghost use Rattle.std.specs.Prelude.{◌≡◌, cond};
 ghost use Rattle.std.specs.Float.Ieee.{lt};
 ghost use Rattle.rules.specs.Axis.{widen, extent_of};

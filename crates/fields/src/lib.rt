@@ -8,6 +8,8 @@
 //
 // `separator_of` says what parts the fields of a text; `field_at` goes from one field to the next (`field_at`). Every field lies in
 // the text and goes on from where it was looked for (`field_goes_on`).
+#![tactic(auto)]
+
 ghost use Rattle.std.specs.Prelude.{◌≡◌};
 ghost use Rattle.fields.specs.Fields.{is_blank, parts, is_plain, bare_byte, bare_at, PlainTo, open_byte, quoted_byte, closed_byte, behind_byte, comment_byte, field_byte, is_met, field_end, field_at};
 

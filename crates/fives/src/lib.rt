@@ -3,6 +3,8 @@
 // The number is divided or multiplied by 5^k in parts, each a u64. Its leading binary digits are taken until there are 55 at
 // least, and the last tells whether something is left: such a whole number rounds as the exact value does
 // (`leading_digits`), and a power of two changes its exponent alone (`scaled`).
+#![tactic(auto)]
+
 ghost use Rattle.std.specs.Prelude.{◌≡◌, ◌+◌, ◌*◌, ◌^◌, ◌<◌, ◌≤◌};
 ghost use Rattle.std.specs.Float.{binary64};
 ghost use Rattle.std.specs.Float.Ieee.{round};

@@ -3,6 +3,8 @@
 // A call tests the order, that there are points, and the lengths of the slices; then it asks, each question of both axes before the next, of the
 // ends of the axes, of their records, and of the points (given_tests has the list). Only then does it write, one index for each point; after a
 // refusal the index slice is as it was.
+#![tactic(auto)]
+
 ghost use Rattle.std.specs.Prelude.{◌≡◌};
 ghost use Rattle.knots_given.specs.Given.{index_on2, index_in2};
 

@@ -4,6 +4,8 @@
 // A call tests the order, that there are points, and the lengths of the slices; then it asks, each question of all axes before the next, of the
 // ends of the axes, of their records, and of the points (given_tests has the list). Only then does it write, one index for each point; after a
 // refusal the index slice is as it was.
+#![tactic(auto)]
+
 ghost use Rattle.std.specs.Prelude.{◌≡◌};
 ghost use Rattle.knots_given.specs.Given.{index_on3, index_in3};
 

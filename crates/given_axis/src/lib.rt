@@ -3,6 +3,8 @@
 // Where the axis is refused it is a flat record with the same ends: a call on it is refused for these before it asks of anything else. So a call
 // on such records files what it files on the axes from low to high, good or bad (proofs/SameEnds.antt, `files_the_same_2d` and
 // `files_the_same_3d`).
+#![tactic(auto)]
+
 ghost use Rattle.std.specs.Prelude.{◌≡◌};
 ghost use Rattle.given_axis.specs.Records.{record_in};
 

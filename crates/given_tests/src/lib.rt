@@ -10,6 +10,8 @@
 // The first column is the place of a question, the second its number. A call asks each question of all axes before the next, so that its
 // number is that of the earliest place at which an axis passes (proofs/Places.antt, `number_at_the_earliest`). An axis that passes none takes
 // its points (specs/Takes.antt of points).
+#![tactic(auto)]
+
 ghost use Rattle.std.specs.Prelude.{◌≡◌, false, min, length};
 ghost use Rattle.rules.specs.Sums.{any};
 ghost use Rattle.rules.specs.Refusals.{outside};

@@ -1,6 +1,8 @@
 // A grid as a file has it: its weights and shape, why it is refused, what is printed in its shape, and what its parts weigh.
 //
 // Every function is proved safe, and to end; what is read and written the gate compares.
+#![tactic(auto)]
+
 pub mod file;
 pub mod listing;
 pub mod shape;

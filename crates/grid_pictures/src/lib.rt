@@ -3,6 +3,8 @@
 //
 // The whole fits 1,200 by 900 pixels. Where cells are small, weights are shown in groups of cells, and of many layers some; the picture says so.
 // Every function is proved safe, and to end; what is written no contract can say, and the gate compares it.
+#![tactic(auto)]
+
 mod areas;
 mod boxes;
 mod cuts;

@@ -2,6 +2,8 @@
 //
 // The script skarvolm knows the commands and hands their words on, each in its place: `report` or another word, the command, the file,
 // the depth, what is to be shown, the edition, and the first axis. What is not asked for is an empty word.
+#![tactic(auto)]
+
 mod halve;
 mod splits;
 

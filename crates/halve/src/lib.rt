@@ -2,6 +2,8 @@
 //
 // The splits are the rule's, and the ids those that the rule makes of them (halve_2d_only, halve_3d_only). The first axis
 // chooses which function of the tree begins, and where the ids' way begins.
+#![tactic(auto)]
+
 ghost use Rattle.std.specs.Prelude.{◌≡◌, ◌<◌, length, replicate};
 ghost use Rattle.rules.specs.Refusals.{top_side};
 ghost use Rattle.rules.specs.Halving.{uncut, splits_by, ids_by};

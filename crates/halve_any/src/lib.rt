@@ -1,4 +1,6 @@
 // The splits and ids of a grid that is not refused, in 2D or 3D by one type, inside: what replays calls it.
+#![tactic(auto)]
+
 ghost use Rattle.std.specs.Prelude.{◌≡◌};
 ghost use Rattle.rules.specs.Halving.{splits_by, ids_by};
 ghost use Rattle.halving_laws.specs.Accepted.{Accepted};

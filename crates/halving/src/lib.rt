@@ -12,5 +12,7 @@
 // id is below 2^depth (ids_below); the weights of the ids add up to the whole and keep to their bounds (demand_3_in_2d,
 // demand_3_in_3d); each cut lies in its block, and a node is not cut just where its side is 0 or its parent is not cut
 // (structured); in 2D, nothing but the first axis tells x from y (mirror).
+#![tactic(auto)]
+
 pub use halving_2d::rcb_2d;
 pub use halving_3d::rcb_3d;

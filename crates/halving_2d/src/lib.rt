@@ -1,4 +1,6 @@
 // Halving a grid in 2D, for `halving`: the tests, and then, where none refuses, the splits and ids.
+#![tactic(auto)]
+
 ghost use Rattle.std.specs.Prelude.{◌≡◌};
 ghost use Rattle.rules.specs.Halving.{halving2, halve};
 

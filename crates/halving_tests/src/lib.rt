@@ -10,6 +10,8 @@
 //
 // The number is that of the first test that passes, and 0 where none does (refusal_2d_only, refusal_3d_only); what follows from
 // 0 is Accepted.
+#![tactic(auto)]
+
 ghost use Rattle.std.specs.Prelude.{◌≡◌, ◌≤◌, ◌-◌, ◌^◌, ◌||◌, [], ◌∷◌};
 ghost use Rattle.rules.specs.Refusals.{top_depth, first_of, edition_unknown, side_unfit, sides_unfit, lengths_off, grid_tests};
 ghost use Rattle.rules.specs.Halving.{halving2, halving3, refusal_of};

@@ -5,6 +5,8 @@
 //   ids      row by row, each row's own stretch of the slice
 //
 // An id is the rule's for any splits (write_ids_only), and below 2^depth (ids_below).
+#![tactic(auto)]
+
 ghost use Rattle.std.specs.Prelude.{◌≡◌, ◌<◌, ◌*◌, length};
 ghost use Rattle.rules.specs.Sums.{list};
 ghost use Rattle.rules.specs.Halving.{walk};

@@ -2,6 +2,8 @@
 //
 // The knot of a point is its cell on each axis, its index that of the knot on the curve. No point is refused, since each axis accepts it
 // and its cells lie below 2^order; the whole index slice is written (write_2d_only).
+#![tactic(auto)]
+
 ghost use Rattle.std.specs.Prelude.{◌≡◌, ◌≤◌, length};
 ghost use Rattle.rules.specs.Sums.{list};
 ghost use Rattle.rules.specs.Refusals.{top2};

@@ -2,5 +2,7 @@
 // refused.
 //
 // Every function is proved safe, and to end; what is read and said no contract can say, and the gate compares it.
+#![tactic(auto)]
+
 pub mod indices;
 pub mod table;

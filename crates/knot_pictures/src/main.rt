@@ -3,6 +3,8 @@
 //
 // The script skarvolm knows the commands and hands their words on, each in its place (`asked`). Everything is worked out before anything is
 // printed, so that what is wrong is said and no picture is begun. A buffer for a file is made here once, and lent as an array.
+#![tactic(auto)]
+
 mod asked;
 mod axes;
 mod frame;

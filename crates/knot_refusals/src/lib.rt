@@ -1,6 +1,8 @@
 // Why knots are refused, with what can be said of the file: the column of a thin axis, the lines outside a box.
 //
 // Every function is proved safe, and to end; what is said no contract can say, and the gate compares it.
+#![tactic(auto)]
+
 use console::faults;
 use console::faults::{REFUSED, full, note, say_all};
 use console::lines::part;

@@ -17,6 +17,8 @@
 // 2^order), so that no point is refused once the tests are passed; on `index_all_2d_is_on` of given_laws: `index_2d` of fit points is
 // `index_2d_on` on the axes over them; and on `index_at_most_one_off_2d` and its like of rounding_laws: rounding moves no point by more than one cell.
 // Each promise has one answer (`index_2d_only` and so on, proofs/Once.antt of knots_2d, knots_3d, given_2d and given_3d).
+#![tactic(auto)]
+
 pub use given_2d::{index_2d_in, index_2d_on};
 pub use given_3d::{index_3d_in, index_3d_on};
 pub use knots_2d::{index_2d, index_2d_default};

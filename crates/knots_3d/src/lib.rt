@@ -2,6 +2,8 @@
 //
 // A call tests, each over all points and axes before the next: the order, that there are points, the lengths of the slices, the values,
 // the axes. Only then does it write, one index for each point; after a refusal the index slice is as it was.
+#![tactic(auto)]
+
 ghost use Rattle.std.specs.Prelude.{◌≡◌, [], ◌∷◌, length};
 ghost use Rattle.rules.specs.Refusals.{first_of, top3};
 ghost use Rattle.rules.specs.Curve.{default_order};

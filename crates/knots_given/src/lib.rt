@@ -3,3 +3,4 @@
 // added.
 //
 // There is no function here, and no proof: what follows is in given_laws, what meets it in given_2d and given_3d.
+#![tactic(auto)]

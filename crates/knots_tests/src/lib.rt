@@ -8,6 +8,8 @@
 //
 // The number is that of the first test that passes, and 0 where none does (refusal_2d_only, refusal_3d_only); what follows from
 // 0 is Passed.
+#![tactic(auto)]
+
 ghost use Rattle.std.specs.Prelude.{◌≡◌, [], ◌∷◌, length};
 ghost use Rattle.rules.specs.Refusals.{first_of, top2, top3};
 ghost use Rattle.rules.specs.Knots.{some_unfit};

@@ -8,6 +8,8 @@
 // One promise, `Knows (2 ^ depth) parts tree`: `make` gives it whatever the tree held, and `raised` gives it back after a part was
 // raised (raised_one), in at most `depth` steps. With it the root's id is below 2 ^ depth (root-below), no part is lighter
 // (root_least), and the tree is no other (knows_only).
+#![tactic(auto)]
+
 ghost use Rattle.std.specs.Prelude.{◌≡◌, ◌^◌, ◌≤◌, ◌<◌, set};
 ghost use Rattle.lightest.specs.Tree.{lighter_of, id_at, root, Knows, Knew, Ready, worked_out};
 

@@ -7,6 +7,8 @@
 //
 // Each sum is that of the rules' weights (run_sum, sheet_sum, solid_sum), and what stood in the array behind the lines stays
 // (line_sums_only).
+#![tactic(auto)]
+
 ghost use Rattle.std.specs.Prelude.{◌≡◌, ◌++◌, length, drop};
 ghost use Rattle.rules.specs.Sums.{list};
 ghost use Rattle.rules.specs.Refusals.{top_side};

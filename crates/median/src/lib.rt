@@ -7,6 +7,8 @@
 //
 // The cut is the rule's and lies before the last line (CutIs); lo and hi keep to their limits (edition_limits), and lo may
 // exceed hi.
+#![tactic(auto)]
+
 ghost use Rattle.std.specs.Prelude.{◌≡◌, ◌<◌, ◌≤◌};
 ghost use Rattle.rules.specs.Refusals.{top_side};
 ghost use Rattle.rules.specs.Halving.{hi_of, edition_of};

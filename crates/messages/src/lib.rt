@@ -1,6 +1,8 @@
 // What is said of a file on standard error: its name, a line and a column, and what was found there.
 //
 // Every function is proved safe, and to end; what is written no contract can say, and the gate compares it.
+#![tactic(auto)]
+
 use libc::STDERR_FILENO;
 
 // Writes what a text of this program says.

@@ -10,6 +10,8 @@
 // a part is at most the weight of all and n times the heaviest weight on one index, the weights of the parts add up to the
 // whole, each part is below n, a part does not fall along the curve, and points that share an index share a part (fair_parts);
 // the order has each point once, in order, and no other list does (order_list, order_unique).
+#![tactic(auto)]
+
 ghost use Rattle.std.specs.Prelude.{◌≡◌};
 ghost use Rattle.requests.specs.Parts.{parts_along};
 

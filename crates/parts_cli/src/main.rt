@@ -3,6 +3,8 @@
 // The script skarvolm knows the commands and hands their words on, each in its place (`asked`). A list is read whole, and what is wrong
 // with it is said, with file, line and column, before anything is printed. What is right goes out through a buffer. A buffer for a file is
 // made here once, and lent as an array.
+#![tactic(auto)]
+
 mod asked;
 mod division;
 mod list;

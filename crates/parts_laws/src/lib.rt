@@ -10,3 +10,4 @@
 //   NotIdle     that bound is sharp, and false of the heaviest single weight
 //   Accepted    what holds of a call that is not refused, and what a call leaves
 //   Passing     the parts of points, worked out along their order
+#![tactic(auto)]

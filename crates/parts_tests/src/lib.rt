@@ -6,6 +6,8 @@
 //   11   a weight is too heavy
 //
 // The number is that of the first test that passes, and 0 where none does (refusal_only); what follows from 0 is Accepted.
+#![tactic(auto)]
+
 ghost use Rattle.std.specs.Prelude.{◌≡◌, [], ◌∷◌};
 ghost use Rattle.rules.specs.Refusals.{first_of, lengths_off};
 ghost use Rattle.requests.specs.Parts.{counts_unfit, parts_tests};

@@ -2,6 +2,8 @@
 //
 // A caller may rely on `thin` and `over` (proofs/Axes.antt): the axis of fit points is refused where it is thin, and else made over them, and
 // takes them (specs/Takes.antt): it accepts each of them, and its cell lies below 2^order.
+#![tactic(auto)]
+
 ghost use Rattle.std.specs.Prelude.{◌≡◌};
 ghost use Rattle.rules.specs.Sums.{any};
 ghost use Rattle.rules.specs.Refusals.{value_unfit};

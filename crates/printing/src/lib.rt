@@ -3,6 +3,8 @@
 //
 // Where standard output takes no more, that is said on standard error once, and the place is `LOST` from then on: nothing is put there.
 // So who prints hands the place on, and asks at the end whether `flush` could write everything.
+#![tactic(auto)]
+
 ghost use Rattle.std.specs.Prelude.{◌+◌, ◌<◌, ◌≤◌, length};
 
 use libc::STDOUT_FILENO;

@@ -2,6 +2,8 @@
 //
 // A whole number up to 2^53 is an f64 exactly, and so is 10^k up to 22: one division or multiplication rounds once. What is
 // larger goes by way of the power of five (crate `fives`).
+#![tactic(auto)]
+
 ghost use Rattle.std.specs.Prelude.{◌*◌, ◌^◌, ◌≤◌, ◌≡◌};
 ghost use Rattle.std.specs.Float.{binary64};
 ghost use Rattle.std.specs.Float.Ieee.{round};

@@ -5,3 +5,4 @@
 //   LeadingDigits  the leading binary digits of a quotient round as it does, if the last tells whether something is left
 //   Exactly        quotients and products of floats whose values are known, rounded once; the floats that are powers of two
 //   Scaled         a fraction by way of a whole number that rounds as it does, times a power of two
+#![tactic(auto)]

@@ -13,5 +13,7 @@
 // meet demand 3 after each event, by the weights of that moment (in_force_after of replay_laws), so that at the end they meet it by
 // today's weights; a night in two pieces has the weights and answers of the whole (second_weights, second_answers), but its second
 // piece begins with a halving of its own, so that the ids may be others (ids_not_in_pieces).
+#![tactic(auto)]
+
 pub use replay_2d::replay_2d;
 pub use replay_3d::replay_3d;

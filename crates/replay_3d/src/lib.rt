@@ -1,4 +1,6 @@
 // Replaying a night on a grid in 3D, for `replay`: the tests, and then, where none refuses, the first halving and all events.
+#![tactic(auto)]
+
 ghost use Rattle.std.specs.Prelude.{◌≡◌};
 ghost use Rattle.rules.specs.Halving.{halving3};
 ghost use Rattle.requests.specs.Replay.{replay};

@@ -3,6 +3,8 @@
 //
 // The script skarvolm knows the commands and hands their words on, each in its place (`asked`). The grid is read first and its weights are
 // kept, then the trace into the same room: what `answers` prints of it still stands there. The buffer is made here once, and lent as an array.
+#![tactic(auto)]
+
 mod answers;
 mod asked;
 mod digits;

@@ -1,4 +1,6 @@
 // One event of a replay: its answer, and, where it is accepted, what it does to the sums, inside: `replay_step` calls it.
+#![tactic(auto)]
+
 ghost use Rattle.std.specs.Prelude.{◌≡◌, ◌≤◌, ◌^◌};
 ghost use Rattle.rules.specs.Refusals.{top_depth};
 ghost use Rattle.requests.specs.Replay.{answer_to};

@@ -9,3 +9,4 @@
 //   Accepted  what holds of a call that is not refused, and what a call leaves
 //   Pieces    a night replayed in two pieces: weights and answers are those of the whole; NotInPieces: ids need not be
 //   Leaving   what it is for a contract to fix part of an outcome
+#![tactic(auto)]

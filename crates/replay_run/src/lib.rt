@@ -3,6 +3,8 @@
 //   cells    the cell of each event
 //   amounts  its amount
 //   answers  its answer: 0, or why it is refused
+#![tactic(auto)]
+
 ghost use Rattle.std.specs.Prelude.{◌≡◌, length};
 ghost use Rattle.rules.specs.Halving.{splits_by, ids_by};
 ghost use Rattle.requests.specs.Replay.{night, said_at, weights_at, splits_at, ids_at};

@@ -7,6 +7,8 @@
 //   tree    the lightest parts
 //
 // What is promised of it is `Runs`.
+#![tactic(auto)]
+
 ghost use Rattle.std.specs.Prelude.{◌≡◌, ◌≤◌};
 ghost use Rattle.rules.specs.Refusals.{top_depth};
 ghost use Rattle.rules.specs.Halving.{splits_by, ids_by};

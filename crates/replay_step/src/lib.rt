@@ -1,5 +1,7 @@
 // One event of a replay from beginning to end, inside: `replay_run` calls it. It costs the same however many cells there are, but for
 // a halving.
+#![tactic(auto)]
+
 ghost use Rattle.std.specs.Prelude.{◌≡◌, cond};
 ghost use Rattle.rules.specs.Halving.{splits_by, ids_by};
 ghost use Rattle.requests.specs.Replay.{answer_to};

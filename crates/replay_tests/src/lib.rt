@@ -9,6 +9,8 @@
 //
 // The number is that of the first test that passes, and 0 where none does (refusal_2d_only, refusal_3d_only). But for 13 and for the
 // slices of events the tests are the halving's, and its number is taken.
+#![tactic(auto)]
+
 ghost use Rattle.std.specs.Prelude.{◌≡◌, true, [], ◌∷◌};
 ghost use Rattle.rules.specs.Refusals.{first_of, lengths_off};
 ghost use Rattle.rules.specs.Halving.{halving2, halving3};

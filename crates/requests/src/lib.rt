@@ -8,6 +8,7 @@
 //   Rounding   how far off a cell may be (14/14)
 //
 // There is no function here, and no proof but those of some cases (proofs/PartsCases.antt, ReplayCases.antt, RoundingCases.antt).
+#![tactic(auto)]
 
 // The most points that are put in order or given parts.
 pub const TOP_POINTS: u32 = 65536;

@@ -11,3 +11,4 @@
 //
 // These stand on RoundNear (how far one rounding moves a fraction), ErrorsAddUp (all roundings of a cell together) and CellClose (the
 // product before its fraction is dropped, and so the cell).
+#![tactic(auto)]

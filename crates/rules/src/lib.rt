@@ -11,6 +11,8 @@
 //
 // There is no function here but the two that make a halving's record without an edition and a first axis, and no proof but what is computed: the
 // named cases (proofs/NamedCases.antt), and that the corners of the curve's quadrants meet in both tables (proofs/CornersMeet.antt).
+#![tactic(auto)]
+
 ghost use Rattle.std.specs.Prelude.{◌≡◌};
 ghost use Rattle.rules.specs.Halving.{of2, of3};
 

@@ -6,6 +6,8 @@
 // line's first byte that is no blank, or behind a blank (a comma, a semicolon or a tab has parted already). Behind a closing
 // quote another opens again, so that two for one stay inside. Elsewhere a quote is a byte as any other: `7" target,focal` is
 // parted by commas. A `#` starts a comment behind a blank or a closing quote. `separator_of` is `separator_of` of its spec.
+#![tactic(auto)]
+
 ghost use Rattle.std.specs.Prelude.{◌≡◌};
 ghost use Rattle.separators.specs.Bytes.{is_space};
 ghost use Rattle.separators.specs.Separators.{is_separator, blank_byte, word_byte, open_byte, gap_byte, quoted_byte, comment_byte, sought_byte, is_found, separator_end, separator_of};

@@ -5,6 +5,8 @@
 //
 // Where a new index is met, every split that the weight passed reaches is below it, and no other is: `advance` goes on to the
 // last of them. So a point's part is the rule's, and only it fits (assign_only).
+#![tactic(auto)]
+
 ghost use Rattle.std.specs.Prelude.{◌≡◌, ◌≤◌, ◌<◌, length};
 ghost use Rattle.rules.specs.Sums.{total};
 ghost use Rattle.requests.specs.Order.{at, order_of};

@@ -3,6 +3,8 @@
 // Each function hands its call on: values behind pointers are those of `curve_out` and `axis_out`, 0 after a refusal; a slice is a pointer and a
 // length, and is as it was after a refusal. Number and values are those that the rules' answers stand for (`read_coded` and its like). No second
 // outcome fits (proofs/Once.antt, `skarvolm_encode_2d_only` and so on); the demands hold of every outcome that fits (crate demands_met).
+#![tactic(auto)]
+
 ghost use Rattle.std.specs.Prelude.{◌≡◌, get_or};
 ghost use Rattle.rules.specs.Refusals.{read_coded, read_cell2, read_cell3, read_cell};
 ghost use Rattle.rules.specs.Curve.{deposit_of, encode2, encode3, decode2, decode3};

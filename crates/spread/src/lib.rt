@@ -10,6 +10,8 @@
 // A caller may rely on: level k of the z-order is the cell's quadrant of level k, and nothing stands above the order's levels (`Interleaved`);
 // each contract leaves one answer (proofs/Once.antt, `deposit_only`, `zorder_2d_only`, `zorder_3d_only`). z's mask alone has 22 bits, and bit 21 of
 // a source comes to stand at bit 63 (proofs/Masks.antt, `bit_21_at_63`).
+#![tactic(auto)]
+
 ghost use Rattle.std.specs.Prelude.{◌≡◌, ◌*◌, ◌/◌, ◌%◌, ◌^◌, ◌<◌, ◌≤◌, bit_and, bit_or};
 ghost use Rattle.rules.specs.Refusals.{top3};
 ghost use Rattle.rules.specs.Curve.{deposit_of, cell2, cell3};

@@ -5,6 +5,8 @@
 //
 // The slow machine is that of Célestin Marot, "Parallel tetrahedral mesh generation" (http://hdl.handle.net/2078.1/240626). This file is
 // written by `tools/make_table 0 1 > crates/table_states_0_1/src/lib.rt`.
+#![tactic(auto)]
+
 ghost use Rattle.curve_laws.specs.Ruled.{RuledQuarter, RuledState};
 
 // State 0, quadrant 0.

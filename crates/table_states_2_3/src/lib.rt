@@ -5,6 +5,8 @@
 //
 // The slow machine is that of Célestin Marot, "Parallel tetrahedral mesh generation" (http://hdl.handle.net/2078.1/240626). This file is
 // written by `tools/make_table 2 3 > crates/table_states_2_3/src/lib.rt`.
+#![tactic(auto)]
+
 ghost use Rattle.curve_laws.specs.Ruled.{RuledQuarter, RuledState};
 
 // State 2, quadrant 0.

@@ -6,6 +6,8 @@
 //   parts   the weight of id i at i
 //
 // What is promised of them is `Tallied` (tally_laws): that they are the sums of the weights and ids at hand.
+#![tactic(auto)]
+
 ghost use Rattle.std.specs.Prelude.{◌≡◌, ◌+◌, ◌<◌, ◌^◌, max, length, get_or, set};
 ghost use Rattle.rules.specs.Sums.{top};
 ghost use Rattle.rules.specs.Grid.{cells};

@@ -5,3 +5,4 @@
 //   Lines        the lines' sums in their array after it
 //   Kept         sums that were those of the weights are those of the weights with the amount
 //   Start        sums from nothing, cell by cell
+#![tactic(auto)]

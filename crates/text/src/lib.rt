@@ -5,6 +5,8 @@
 // where a byte stands, as a person counts.
 //
 // Every token lies in the text and goes on from where it was looked for (`token_goes_on`).
+#![tactic(auto)]
+
 mod place;
 mod token;
 

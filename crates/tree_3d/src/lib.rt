@@ -4,6 +4,8 @@
 //
 // The splits are the rule's tree (recurse_3d_y_only and so on): node i at place i - 1, its children 2i and 2i + 1; a node that is not cut keeps what
 // stood there.
+#![tactic(auto)]
+
 ghost use Rattle.std.specs.Prelude.{◌≡◌, length};
 ghost use Rattle.rules.specs.Refusals.{top_side};
 ghost use Rattle.halving_laws.specs.Nodes.{Places};

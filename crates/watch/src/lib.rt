@@ -1,5 +1,7 @@
 // Whether all parts keep to demand 3's bounds, inside: the heaviest and the lightest answer for all (answer_for_all of replay_laws).
 // They are watched from event to event, the heaviest by its id, since parts only grow, the lightest by a tree.
+#![tactic(auto)]
+
 ghost use Rattle.std.specs.Prelude.{◌≡◌, ◌<◌, ◌≤◌, ◌^◌, length};
 ghost use Rattle.requests.specs.Order.{at};
 ghost use Rattle.requests.specs.Replay.{some_broken};

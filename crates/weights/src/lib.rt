@@ -1,4 +1,6 @@
 // What the weights of cells and of points have in common, inside: `halving_tests` and `parts_tests` call it.
+#![tactic(auto)]
+
 ghost use Rattle.std.specs.Prelude.{◌≡◌};
 ghost use Rattle.rules.specs.Refusals.{weight_over};
 

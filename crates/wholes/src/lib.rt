@@ -2,6 +2,8 @@
 //
 // `whole_of` reads a word from its first byte to its last and answers the number (`whole_of`), or the place of the first
 // byte that is no digit or that makes the number too large; a word of no bytes is told apart. Nought may stand in front.
+#![tactic(auto)]
+
 ghost use Rattle.std.specs.Prelude.{◌≡◌};
 ghost use Rattle.wholes.specs.Wholes.{is_digit, digit_on, whole_step, whole_of};
 

@@ -1,6 +1,8 @@
 // Whole numbers below 2^168, in three limbs of 56 bits, so that a limb times a byte fits a u64, inside: `bounds` calls it.
 //
 //   lo, mid, hi   worth lo + 2^56 * (mid + 2^56 * hi), each below 2^56
+#![tactic(auto)]
+
 ghost use Rattle.std.specs.Prelude.{◌≡◌, ◌*◌, ◌^◌, ◌<◌, leb};
 ghost use Rattle.wide.specs.Value.{value, Limbs, Holds, room};
 

@@ -2,6 +2,8 @@
 // stand zeros. And how a command ended (`status`).
 //
 // Every function is proved safe, and to end; what is written no contract can say, and the gate compares it.
+#![tactic(auto)]
+
 pub mod status;
 
 ghost use Rattle.std.specs.Prelude.{◌≡◌, T, ◌≤◌, length};
