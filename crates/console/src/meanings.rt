@@ -59,7 +59,7 @@ pub fn meaning(fd: i32, number: u32)
 
 // Writes a line for each number, and what it means; whether all could be written.
 pub fn numbers(fd: i32) -> bool
-    ensures* { ⊤ₛ }
+    ensures { Unit {0} }
 {
     let mut written = true;
     for number in 0..256u32 {
