@@ -17,13 +17,15 @@ pub struct Buffer {
     rt: HostRuntime,
 }
 
-// A buffer for standard output with nothing in it.
-pub fn buffer(rt: HostRuntime) -> Buffer
-    ensures { Unit {0} }
-{
-    Buffer {
-        bytes: [0; 4096],
-        rt,
+impl Buffer {
+    // A buffer with nothing in it.
+    pub fn of(rt: HostRuntime) -> Buffer
+        ensures { Unit {0} }
+    {
+        Buffer {
+            bytes: [0; 4096],
+            rt,
+        }
     }
 }
 
