@@ -3,8 +3,7 @@ use Rattle.std.proofs.Common.{◌≡◌, Bool, true, false, not, T, sym, refl, a
 use lib.Ieee.{Float, nan, inf, fin, ne, is_nan}
 use lib.Ieee.Compare.{differs_from_itself}
 use Rattle.rules.specs.Axis.{same_bits}
-use Rattle.axis_cell.proofs.same_bits.Statement.{statement}
-use Rattle.axis_cell.proofs.same_bits.Tie as tie
+use Rattle.axis_cell.proofs.same_bits.Goals as goal
 
 nan-itself : (x : Float) → ne x x ≡ true → is_nan x ≡ true
 unfolding is_nan
@@ -16,19 +15,16 @@ no-nan-itself nan e = absurd (true≢false e)
 no-nan-itself (inf s) e = refl
 no-nan-itself (fin s m d) e = refl
 
-returns : tie.Need-returns
+pub returns-then-f : goal.returns-then-f
 unfolding same_bits
-returns c = simp (nan-itself _ c.if1.true)
+returns-then-f c = simp (nan-itself _ c.if-f.true)
 
-float-to-bits-result : tie.Need-float-to-bits-result
-float-to-bits-result c = subst (λ (t : Bool). T (not t)) (sym (no-nan-itself _ c.if1.false)) tt
+pub float_to_bits-result : goal.float_to_bits-result
+float_to_bits-result c = subst (λ (t : Bool). T (not t)) (sym (no-nan-itself _ c.if-f.false)) tt
 
-float-to-bits-result-2 : tie.Need-float-to-bits-result-2
-float-to-bits-result-2 c = subst (λ (t : Bool). T (not t)) (sym c.before.requires) tt
+pub float_to_bits-result-2 : goal.float_to_bits-result-2
+float_to_bits-result-2 c = subst (λ (t : Bool). T (not t)) (sym c.requires) tt
 
-returns-2 : tie.Need-returns-2
+pub returns : goal.returns
 unfolding same_bits
-returns-2 c = simp (no-nan-itself _ c.if1.false)
-
-pub same-bits-spec : {M : Type 1} → statement M
-same-bits-spec = tie.close (tie.spec returns float-to-bits-result float-to-bits-result-2 returns-2)
+returns c = simp (no-nan-itself _ c.if-f.false)
