@@ -158,7 +158,7 @@ pub struct Extent {
 }
 
 // What describes a halving in 2D. The first cut is across the axis `first`: x is 0, y is 1.
-#[derive(Drop)]
+#[derive(Clone, Copy)]
 pub struct Halving2 {
     pub edition: u32,
     pub width: u32,
@@ -168,7 +168,7 @@ pub struct Halving2 {
 }
 
 // What describes a halving in 3D. The first cut is across the axis `first`: x is 0, y is 1, z is 2.
-#[derive(Drop)]
+#[derive(Clone, Copy)]
 pub struct Halving3 {
     pub edition: u32,
     pub width: u32,
