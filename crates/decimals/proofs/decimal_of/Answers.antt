@@ -10,7 +10,8 @@ returns-then-next-word c =
 pub decimal_part-all-requires : goal.decimal_part-all-requires
 decimal_part-all-requires c =
     let p = c.whole_part-whole.ensures in
-    (omega (arith, p.0), point_more _ _ _ c.if-next-eq0.false c.if-word-next-ne46.false p.1)
+    let whole = c.whole_part-whole.result in
+    (omega (arith, p.0), point_more c.args.word.now whole.digits whole.next c.if-next-eq0.false (omega arith) p.1)
 
 pub returns-then-last-word : goal.returns-then-last-word
 returns-then-last-word c =
