@@ -78,8 +78,8 @@ loop-j-preserved c =
     let x = ap (at a.indices.now) p in
     step _ _ _ v l p x (ap (at a.weights.now) p)
     (elim c.if-last-index.branch [
-      then-last-index w ↦ rw w.k-is (new_part _ _ _ v l x (all-is _ _ _ c.weigh-all.ensures c.requires.accepted.weights_long) w.if-last-index.true w.advance-k.ensures)
-    | else-last-index w ↦ rw w.k-is (unchanged _ _ _ v l (omega (arith, x, w.if-last-index.false)))
+      | then-last-index w ↦ rw w.k-is (new_part _ _ _ v l x (all-is _ _ _ c.weigh-all.ensures c.requires.accepted.weights_long) w.if-last-index.true w.advance-k.ensures)
+      | else-last-index w ↦ rw w.k-is (unchanged _ _ _ v l (omega (arith, x, w.if-last-index.false)))
     ])
 
 pub returns : goal.returns
