@@ -1,4 +1,4 @@
-//! Finds libskarvolm.a: in the folder that SKARVOLM_LIB names, else where `rt staticlib skarvolm` puts it.
+//! Finds libskarvolm.a: in the folder that SKARVOLM_LIB names, else where `tools/staticlib` puts it.
 use std::env;
 use std::path::{Path, PathBuf};
 
@@ -20,7 +20,7 @@ fn main() {
     println!("cargo:rerun-if-changed={}", library.display());
     if !library.exists() {
         panic!(
-            "no {}: run `rt staticlib skarvolm`, or set SKARVOLM_LIB to its folder",
+            "no {}: run `tools/staticlib`, or set SKARVOLM_LIB to its folder",
             library.display()
         );
     }

@@ -8,7 +8,7 @@
 //   extent      low and high of points
 //
 // A caller may rely on these, of axis_laws:
-//   cell-below                       the cell of every accepted value lies below 2^order
+//   cell_below                       the cell of every accepted value lies below 2^order
 //   at_most_one_step                 the factor is 2^order / width or the next smaller f64
 //   made_anew, not_made_up           a record is taken for made up unless making it anew gives it back
 //   accepts, refused_order_or_thin   the axis of fit points accepts each of them, and only its order or its width can refuse it

@@ -4,7 +4,7 @@
 // up, and refused.
 //
 // A caller may rely on these, of axis_laws:
-//   cell-below               the cell of every accepted value lies below 2^order
+//   cell_below               the cell of every accepted value lies below 2^order
 //   made_anew, not_made_up   a record is taken for made up unless making it anew gives it back
 //   accepts                  the axis of fit points accepts each of them
 #![tactic(auto)]

@@ -22,7 +22,7 @@ pub const Y: usize = 1;
 pub const Z: usize = 2;
 
 // The sides of a grid.
-#[derive(Drop)]
+#[derive(Clone, Copy)]
 pub struct Grid {
     pub width: usize,
     pub height: usize,
@@ -30,7 +30,7 @@ pub struct Grid {
 }
 
 // A block: its low corner and its sides.
-#[derive(Drop)]
+#[derive(Clone, Copy)]
 pub struct SubGrid {
     pub x: usize,
     pub y: usize,

@@ -5,9 +5,8 @@
 // each of them what it is and the first byte of what was found with the place after it.
 use crate::lines::{fields_on, part};
 use crate::meanings::meaning;
-use libc::STDERR_FILENO;
 pub use messages::{begin, of, quote, write, write_number};
-use messages::{found, place};
+use messages::{STDERR_FILENO, found, place};
 use words::word;
 
 // How many faults are kept and said.
@@ -155,7 +154,7 @@ fn say(path: &[u8], text: &[u8], separator: u8, what: usize, start: usize, end: 
 
 // Says all faults that were kept, and whether there are more.
 pub fn say_all(path: &[u8], text: &[u8], separator: u8, faults: &[usize; 61])
-    ensures* { ⊤ₛ }
+    ensures { Unit {0} }
 {
     let n = faults[0];
     for i in 0..20usize {

@@ -1,7 +1,9 @@
 // A file, read whole.
 ghost use Rattle.std.specs.Prelude.{◌≡◌, take};
 
-use libc::STDIN_FILENO;
+use std::fs::File;
+use std::io::{Error, Read};
+use std::rt::HostRuntime;
 use words::same;
 use words::status::say_system;
 
@@ -12,41 +14,45 @@ pub enum Size {
     Unread,
 }
 
-// The descriptor of a file, of standard input where the name is `-`; below 0 where it cannot be opened.
-fn open(path: &[u8]) -> i32 {
-    if same(path, b"-") {
-        return STDIN_FILENO;
+// The number by which the system says that bytes are no text.
+const EILSEQ: i32 = 84;
+
+// Opens a file by its name, which is to be text in UTF-8.
+fn open(rt: HostRuntime, path: &[u8]) -> Result<File, Error> {
+    match std::str::from_utf8(path) {
+        Ok(name) => File::open(&rt, name),
+        Err(_) => Err(Error::from_raw_os_error(EILSEQ)),
     }
-    os::open_read(path)
 }
 
-// Reads what comes next behind the first `done` bytes: how many bytes, 0 at the file's end or where there is no room, below 0 where
-// reading fails.
-fn read_on(file: i32, bytes: &mut [u8], done: usize) -> isize {
+// Reads what comes next behind the first `done` bytes: how many bytes, 0 at the file's end or where there is no room.
+fn read_on<R: Read>(file: &mut R, bytes: &mut [u8], done: usize) -> Result<usize, Error> {
     if bytes.len() <= done {
-        return 0;
+        return Ok(0);
     }
-    libc::read(file, &mut bytes[done..])
+    file.read(&mut bytes[done..])
 }
 
 // Reads an open file up to its end; every turn but the last reads a byte or more.
-fn read_all(file: i32, bytes: &mut [u8]) -> Size {
+fn read_all<R: Read>(file: &mut R, bytes: &mut [u8]) -> Result<usize, Error> {
     let mut done: usize = 0;
     for _ in 0..bytes.len() {
-        let got = read_on(file, bytes, done);
-        if got < 0 {
-            return Size::Unread;
-        }
+        let got = read_on(file, bytes, done)?;
         if got == 0 {
-            return Size::Bytes(done);
+            return Ok(done);
         }
-        done = std::num::wrapping_add_usize(done, io::count(got, bytes));
+        done = std::num::wrapping_add_usize(done, got);
     }
-    Size::Bytes(done)
+    Ok(done)
 }
 
-fn read_open(file: i32, bytes: &mut [u8; 4194304]) -> Size {
-    read_all(file, bytes)
+// Reads standard input where the name is `-`, and else the file of that name.
+fn read_named(rt: HostRuntime, path: &[u8], bytes: &mut [u8; 4194304]) -> Result<usize, Error> {
+    if same(path, b"-") {
+        return read_all(&mut rt.stdin(), bytes);
+    }
+    let mut file = open(rt, path)?;
+    read_all(&mut file, bytes)
 }
 
 // Whether there is less than a room full; one that is full may have cut the file.
@@ -59,21 +65,16 @@ fn short(path: &[u8], size: usize) -> Size {
 }
 
 // Reads a file, or says why not.
-pub fn read(path: &[u8], bytes: &mut [u8; 4194304]) -> Size
+pub fn read(rt: HostRuntime, path: &[u8], bytes: &mut [u8; 4194304]) -> Size
     ensures { Unit {0} }
 {
-    let file = open(path);
-    if file < 0 {
-        say_system(path);
-        return Size::Unread;
+    match read_named(rt, path, bytes) {
+        Ok(size) => short(path, size),
+        Err(error) => {
+            say_system(path, error);
+            Size::Unread
+        }
     }
-    let got = read_open(file, bytes);
-    let Size::Bytes(size) = got else {
-        say_system(path);
-        return Size::Unread;
-    };
-    libc::close(file);
-    short(path, size)
 }
 
 // The first n bytes, or all where there are fewer.

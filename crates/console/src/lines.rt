@@ -23,7 +23,7 @@ pub fn part(text: &[u8], start: usize, end: usize) -> &[u8]
 
 // Where the line that goes on at `at` ends.
 pub fn line_end(text: &[u8], at: usize) -> usize
-    ensures* { ⊤ₛ }
+    ensures { Unit {0} }
 {
     for i in at..text.len() {
         if text[i] == b'\n' {
@@ -35,7 +35,7 @@ pub fn line_end(text: &[u8], at: usize) -> usize
 
 // How many fields the line at `at` has.
 pub fn fields_on(text: &[u8], at: usize, separator: u8) -> usize
-    ensures* { ⊤ₛ }
+    ensures { Unit {0} }
 {
     let mut next = at;
     for n in 0..text.len() {
@@ -50,7 +50,7 @@ pub fn fields_on(text: &[u8], at: usize, separator: u8) -> usize
 
 // Field `k` of the line at `at`, counted from 0; nothing where the line has fewer.
 pub fn field_of(text: &[u8], at: usize, separator: u8, k: usize) -> Span
-    ensures* { ⊤ₛ }
+    ensures { Unit {0} }
 {
     let mut next = at;
     for i in 0..text.len() {
@@ -74,7 +74,7 @@ pub fn field_of(text: &[u8], at: usize, separator: u8, k: usize) -> Span
 
 // Where the first line that has a field begins, the text's end where none has.
 pub fn first_line(text: &[u8], at: usize, separator: u8) -> usize
-    ensures* { ⊤ₛ }
+    ensures { Unit {0} }
 {
     let mut start = at;
     for _ in 0..text.len() {

@@ -1,7 +1,11 @@
 // What the numbers of refusal mean, in words: one table, from which everything that speaks of a number takes its text.
 //
 // The line of a number is the number. A number whose line is empty, or that has none, is said to be none.
+use std::io::{Error, Print};
+use std::rt::HostRuntime;
 use words::word;
+
+const STDOUT_FILENO: i32 = 1;
 
 // Writes a line of the table, behind its number where that is wanted, and says whether there is one.
 fn write_line(fd: i32, number: u32, numbered: bool, texts: &[u8]) -> bool {
@@ -57,15 +61,15 @@ pub fn meaning(fd: i32, number: u32)
     }
 }
 
-// Writes a line for each number, and what it means; whether all could be written.
-pub fn numbers(fd: i32) -> bool
-    ensures* { ⊤ₛ }
+// Writes a line for each number to standard output, and what it means; the error of the last one that could not be written.
+pub fn numbers(rt: HostRuntime) -> Result<(), Error>
+    ensures { Unit {0} }
 {
-    let mut written = true;
+    let mut written = Ok(());
     for number in 0..256u32 {
-        if write_text(fd, number, true) {
-            if !io::write_all(fd, b"\n") {
-                written = false;
+        if write_text(STDOUT_FILENO, number, true) {
+            if let Err(error) = rt.write_all(b"\n") {
+                written = Err(error);
             }
         }
     }

@@ -14,7 +14,7 @@ use wholes::is_digit;
 // What has been met of a word: nothing, a sign, whole digits, a point with no digit before it, a point and digits, an `e` and
 // what has been met behind it; or the place of a byte that stands wrong, of a 20th digit, or of a 45th decimal. The bool says
 // whether the sign is a minus, the first number is all digits so far and the second how many of them are decimals.
-#[derive(Drop)]
+#[derive(Clone, Copy)]
 pub enum Met {
     Start,
     Sign(bool),
@@ -113,6 +113,7 @@ fn decimal_byte(negative: bool, digits: u64, decimals: u32, b: u8, at: usize) ->
 }
 
 // What has been met with one byte more.
+#[tactic(auto, unfolding(crate::specs::Steps::met_step))]
 pub fn step(met: Met, b: u8, at: usize) -> Met
     ensures { result ≡ met_step met b at }
 {

@@ -7,7 +7,6 @@ use Rattle.decimal_steps.specs.declared.Met.{Met}
 use Rattle.decimal_steps.specs.declared.Met.TheVariants as met
 use Rattle.exponents.specs.declared.Exponent.{Exponent}
 use Rattle.exponents.specs.declared.Exponent.TheVariants as exponent
-use Rattle.decimals.specs.declared.Part.{Part}
 use Rattle.decimals.specs.declared.Decimal.{Decimal}
 use Rattle.decimals.specs.declared.Decimal.TheVariants.{Value, Odd, Long, Deep, High, Short}
 

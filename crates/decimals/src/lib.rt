@@ -53,6 +53,7 @@ fn value(negative: bool, digits: u64, up: u64, down: u64, at: usize) -> Decimal
 }
 
 // What a word is that ends at `at` with an exponent.
+#[tactic(auto, unfolding(crate::specs::Decimals::powered_of))]
 fn powered(negative: bool, digits: u64, decimals: u32, exponent: Exponent, at: usize) -> Decimal
     ensures { result ≡ powered_of negative digits decimals exponent at }
 {
@@ -76,6 +77,7 @@ fn powered(negative: bool, digits: u64, decimals: u32, exponent: Exponent, at: u
 }
 
 // What a word is that ends at `at`.
+#[tactic(auto, unfolding(crate::specs::Decimals::end_of))]
 fn end(met: Met, at: usize) -> Decimal
     ensures { result ≡ end_of met at }
 {
@@ -97,6 +99,7 @@ fn end(met: Met, at: usize) -> Decimal
 }
 
 // A number with one digit more.
+#[tactic(auto, using(wholes::proofs::Digits::digit_range))]
 fn with_digit(digits: u64, b: u8) -> u64
     requires { (is_digit b ≡ true) × (digits ≤ 999999999999999999) }
     ensures { result ≡ 10 * digits + (b - 48) }
@@ -105,6 +108,7 @@ fn with_digit(digits: u64, b: u8) -> u64
 }
 
 // The whole number that a word begins with, and the place behind its digits; nothing where it begins otherwise.
+#[tactic(auto, unfolding(crate::specs::Decimals::met_to))]
 fn whole_part(word: &[u8]) -> Part
     ensures { MetBefore word.now (whole_met result.next result.digits) result.next }
 {
@@ -150,6 +154,7 @@ fn decimal_part(word: &[u8], from: usize, whole: u64) -> Part
 }
 
 // The word's value, or where it is wrong, from what has been met before a place.
+#[tactic(auto, unfolding(crate::specs::Decimals::met_to))]
 fn ended(word: &[u8], first: Met, from: usize) -> Decimal
     requires { MetBefore word.now first from }
     ensures { result ≡ end_of (met_to word.now (length word.now)) (length word.now) }
@@ -164,6 +169,7 @@ fn ended(word: &[u8], first: Met, from: usize) -> Decimal
 }
 
 // The word's value, or where it is wrong. What most words are is tried first: digits, or digits, a point and digits, and no more.
+#[tactic(auto, unfolding(crate::specs::Decimals::decimal_of))]
 pub fn decimal_of(word: &[u8]) -> Decimal
     ensures { result ≡ decimal_of word.now }
 {

@@ -61,7 +61,7 @@ pub fn add_all(
     parts: &[u32; 65536],
     order: &[u32; 65536],
 )
-    ensures* { ⊤ₛ }
+    ensures { Unit {0} }
 {
     for i in 0..65536usize {
         if i < n {
@@ -77,7 +77,7 @@ pub fn add_all(
 
 // The weight of all parts.
 pub fn weight_of_all(table: &[u64; 4096]) -> u64
-    ensures* { ⊤ₛ }
+    ensures { Unit {0} }
 {
     let mut sum: u64 = 0;
     for k in 0..1024usize {
@@ -88,7 +88,7 @@ pub fn weight_of_all(table: &[u64; 4096]) -> u64
 
 // The first of the heaviest parts.
 pub fn heaviest(table: &[u64; 4096]) -> usize
-    ensures* { ⊤ₛ }
+    ensures { Unit {0} }
 {
     let mut best: usize = 0;
     for k in 0..1024usize {
@@ -124,7 +124,7 @@ pub fn heaviest_on_one(
     weights: &[u64; 65536],
     order: &[u32; 65536],
 ) -> u64
-    ensures* { ⊤ₛ }
+    ensures { Unit {0} }
 {
     let mut most: u64 = 0;
     let mut here: u64 = 0;
@@ -141,7 +141,7 @@ pub fn heaviest_on_one(
 
 // A part count times a weight; 0 of more than there can be.
 pub fn times(count: u32, weight: u64) -> u64
-    ensures* { ⊤ₛ }
+    ensures { Unit {0} }
 {
     if requests::TOP_PARTS < count {
         return 0;

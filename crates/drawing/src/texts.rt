@@ -108,7 +108,7 @@ fn put_letter(buffer: &mut [u8; 4096], at: usize, code: u32) -> usize {
 
 // Puts the first letters of a text, at most so many, and two points where there are more.
 pub fn put_text(buffer: &mut [u8; 4096], at: usize, text: &[u8], most: usize) -> usize
-    ensures* { ⊤ₛ }
+    ensures { Unit {0} }
 {
     let mut next = at;
     let mut i: usize = 0;

@@ -11,7 +11,7 @@ use wholes::is_digit;
 
 // What has been met: nothing, a sign, digits, the place of a byte that stands wrong, or that of a digit that leads too far. The
 // bool says whether the sign is a minus, and the number is the digits so far.
-#[derive(Drop)]
+#[derive(Clone, Copy)]
 pub enum Exponent {
     Start,
     Sign(bool),
@@ -47,6 +47,7 @@ fn first(b: u8, at: usize) -> Exponent
 }
 
 // What has been met with one byte more.
+#[tactic(auto, unfolding(crate::specs::Exponents::exponent_step))]
 pub fn exponent_step(met: Exponent, b: u8, at: usize) -> Exponent
     ensures { result ≡ exponent_step met b at }
 {

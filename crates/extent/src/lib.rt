@@ -27,6 +27,7 @@ fn higher(high: f64, x: f64) -> f64
 }
 
 // The extent with one more point.
+#[tactic(auto, unfolding(rules::specs::Axis::widen))]
 fn widen_by(extent: Extent, x: f64) -> Extent
     ensures { result ≡ widen extent x }
 {

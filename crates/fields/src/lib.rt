@@ -17,7 +17,7 @@ pub use separators::separator_of;
 
 // What stands next in a text: a field from its first byte to before another (it may be empty) with the place where the next may
 // begin, a comment or a line's end with the place after it, or the text's end.
-#[derive(Drop)]
+#[derive(Clone, Copy)]
 pub enum Field {
     Word(usize, usize, usize),
     Comment(usize),
@@ -26,7 +26,7 @@ pub enum Field {
 }
 
 // What has been met of a field without quotes: the place behind its last byte so far; or its end, and where the next may begin.
-#[derive(Drop)]
+#[derive(Clone, Copy)]
 pub enum Bare {
     Going(usize),
     Ended(usize, usize),
@@ -34,7 +34,7 @@ pub enum Bare {
 
 // What has been met where a field may begin: nothing but blanks; a comment; an open quote, by its place and that behind it; a
 // quote that may close it, and that quote with blanks behind it, by its place too; the place of a field without quotes; or all.
-#[derive(Drop)]
+#[derive(Clone, Copy)]
 pub enum Met {
     Open,
     Comment,
@@ -46,6 +46,7 @@ pub enum Met {
 }
 
 // Whether a byte is a space, a carriage return or a tab that parts nothing.
+#[tactic(auto, unfolding(crate::specs::Fields::is_blank))]
 fn is_blank(b: u8, separator: u8) -> bool
     ensures { result ≡ is_blank separator b }
 {
@@ -62,6 +63,7 @@ fn is_blank(b: u8, separator: u8) -> bool
 }
 
 // Whether a byte parts fields.
+#[tactic(auto, unfolding(crate::specs::Fields::parts))]
 fn parts_fields(b: u8, separator: u8) -> bool
     ensures { result ≡ parts separator b }
 {
@@ -75,6 +77,7 @@ fn parts_fields(b: u8, separator: u8) -> bool
 }
 
 // Whether a byte belongs to a field wherever it stands: it parts nothing and is none of the others, which lie below it.
+#[tactic(auto, unfolding(crate::specs::Fields::is_plain))]
 fn is_plain(b: u8, separator: u8) -> bool
     ensures { result ≡ is_plain separator b }
 {
@@ -221,6 +224,7 @@ fn closed_byte(
 }
 
 // What has been met with one byte more, which stands at `at` and before `next`.
+#[tactic(auto, unfolding(crate::specs::Fields::field_byte))]
 fn step(met: Met, b: u8, at: usize, next: usize, separator: u8) -> Met
     ensures { result ≡ field_byte separator met b at next }
 {
@@ -251,6 +255,7 @@ fn is_met(met: Met) -> bool
 }
 
 // The field, by what has been met of it up to the text's end.
+#[tactic(auto, unfolding(crate::specs::Fields::field_end))]
 fn ended(text: &[u8], met: Met, separator: u8) -> Field
     ensures { result ≡ field_end separator text.now met }
 {

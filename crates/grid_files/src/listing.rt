@@ -51,7 +51,7 @@ fn put_cell(
 
 // Prints a number of each cell: its weight, so that they are a grid's file again, or else its id.
 pub fn print(shape: Shape, weighed: bool, weights: &[u64; 65536], ids: &[u32; 65536]) -> u8
-    ensures* { ⊤ₛ }
+    ensures { Unit {0} }
 {
     let cells = shape.cells;
     let mut buffer = [0u8; 4096];

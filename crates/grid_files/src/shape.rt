@@ -34,7 +34,7 @@ pub fn side(n: usize) -> u32
 
 // How many cuts a depth has.
 pub fn nodes_of(depth: u32) -> usize
-    ensures* { ⊤ₛ }
+    ensures { Unit {0} }
 {
     if 12 < depth {
         return 0;

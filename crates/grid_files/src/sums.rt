@@ -18,7 +18,7 @@ pub fn add_to_parts(
     weights: &[u64; 65536],
     ids: &[u32; 65536],
 )
-    ensures* { ⊤ₛ }
+    ensures { Unit {0} }
 {
     for i in 0..65536usize {
         if i < cells {
@@ -29,7 +29,7 @@ pub fn add_to_parts(
 
 // The sum of a table.
 pub fn sum(table: &[u64; 4096]) -> u64
-    ensures* { ⊤ₛ }
+    ensures { Unit {0} }
 {
     let mut all: u64 = 0;
     for i in 0..4096usize {
@@ -40,7 +40,7 @@ pub fn sum(table: &[u64; 4096]) -> u64
 
 // The first of the heaviest places of a table.
 pub fn heaviest(table: &[u64; 4096]) -> usize
-    ensures* { ⊤ₛ }
+    ensures { Unit {0} }
 {
     let mut best: usize = 0;
     for i in 0..4096usize {
@@ -53,7 +53,7 @@ pub fn heaviest(table: &[u64; 4096]) -> usize
 
 // The first of the lightest places of a table, up to one of them.
 pub fn lightest(table: &[u64; 4096], last: usize) -> usize
-    ensures* { ⊤ₛ }
+    ensures { Unit {0} }
 {
     let mut best: usize = 0;
     for i in 0..4096usize {

@@ -42,7 +42,7 @@ fn meant_field(text: &[u8], at: usize, separator: u8, columns: Columns, k: usize
 
 // Whether the line at `at` is a header: nothing in it that should be a number is meant as one.
 pub fn is_header(text: &[u8], at: usize, separator: u8, columns: Columns) -> bool
-    ensures* { ⊤ₛ }
+    ensures { Unit {0} }
 {
     for k in 0..fields_on(text, at, separator) {
         if meant_field(text, at, separator, columns, k) {

@@ -49,7 +49,7 @@ pub fn chosen(words: &[u8], i: usize, text: &[u8], head: usize, separator: u8) -
 
 // The first coordinate whose word chose no column, 3 where there is none such.
 pub fn unknown(columns: Columns) -> usize
-    ensures* { ⊤ₛ }
+    ensures { Unit {0} }
 {
     for axis in 0..3usize {
         if axis < columns.count {
@@ -63,7 +63,7 @@ pub fn unknown(columns: Columns) -> usize
 
 // The first coordinate whose column is that of one before it, 3 where there is none such.
 pub fn repeated(columns: Columns) -> usize
-    ensures* { ⊤ₛ }
+    ensures { Unit {0} }
 {
     for axis in 0..3usize {
         if axis < columns.count {

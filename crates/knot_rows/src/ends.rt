@@ -62,7 +62,7 @@ fn extremes(values: &[f64]) -> Pair {
 
 // The points at the ends of each axis.
 pub fn points_at(values: &[f64; 196608], n: usize, points: &mut [usize; 6])
-    ensures* { ⊤ₛ }
+    ensures { Unit {0} }
 {
     for axis in 0..3usize {
         let at = extremes(of_axis(values, axis, n));
@@ -73,7 +73,7 @@ pub fn points_at(values: &[f64; 196608], n: usize, points: &mut [usize; 6])
 
 // The ends of each axis from those points.
 pub fn of_points(values: &[f64; 196608], points: &[usize; 6], ends: &mut [f64; 6])
-    ensures* { ⊤ₛ }
+    ensures { Unit {0} }
 {
     for i in 0..6usize {
         ends[i] = value_of(values, i / 2, points[i]);
@@ -82,7 +82,7 @@ pub fn of_points(values: &[f64; 196608], points: &[usize; 6], ends: &mut [f64; 6
 
 // The ends of each axis from word `from` on, `count` of them; the first word that is no decimal, or the word behind them.
 pub fn of_words(words: &[u8], from: usize, count: usize, ends: &mut [f64; 6]) -> usize
-    ensures* { ⊤ₛ }
+    ensures { Unit {0} }
 {
     for i in 0..6usize {
         if i < count {

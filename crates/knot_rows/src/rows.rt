@@ -192,7 +192,7 @@ pub fn read(
     starts: &mut [u32; 65536],
     faults: &mut [usize; 61],
 ) -> usize
-    ensures* { ⊤ₛ }
+    ensures { Unit {0} }
 {
     let mut at = first;
     let mut points: usize = 0;

@@ -6,7 +6,7 @@
 //           and 2n + 1 stand below n, and the leaf of id i, which has no place, is node 2 ^ depth + i. The other places hold 0
 //
 // One promise, `Knows (2 ^ depth) parts tree`: `make` gives it whatever the tree held, and `raised` gives it back after a part was
-// raised (raised_one), in at most `depth` steps. With it the root's id is below 2 ^ depth (root-below), no part is lighter
+// raised (raised_one), in at most `depth` steps. With it the root's id is below 2 ^ depth (root_below), no part is lighter
 // (root_least), and the tree is no other (knows_only).
 #![tactic(auto)]
 

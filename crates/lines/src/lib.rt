@@ -15,7 +15,7 @@ ghost use Rattle.rules.specs.Refusals.{top_side};
 ghost use Rattle.lines.specs.Stacks.{run_sum, sheet_sum, solid_sum, line_of, Light, RunFits, SheetFits, SolidFits, LinesFit};
 
 // `layers` sheets, `layer` apart, of `height` runs, `row` apart, of `width` cells.
-#[derive(Drop)]
+#[derive(Clone, Copy)]
 pub struct Stack {
     pub width: usize,
     pub row: usize,

@@ -3,7 +3,7 @@
 // Every function is proved safe, and to end; what is written no contract can say, and the gate compares it.
 #![tactic(auto)]
 
-use libc::STDERR_FILENO;
+pub const STDERR_FILENO: i32 = 2;
 
 // Writes what a text of this program says.
 pub fn write(what: &[u8])
@@ -35,7 +35,7 @@ fn write_byte(b: u8) {
 
 // Writes at most 40 bytes of a file in quotes.
 pub fn quote(what: &[u8])
-    ensures* { ⊤ₛ }
+    ensures { Unit {0} }
 {
     write(b"'");
     for i in 0..what.len() {

@@ -61,7 +61,7 @@ pub fn put_points(
     starts: &[u32; 65536],
     numbers: &[u64; 65536],
 ) -> usize
-    ensures* { ⊤ₛ }
+    ensures { Unit {0} }
 {
     let mut next = at;
     for i in 0..65536usize {

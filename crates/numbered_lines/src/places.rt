@@ -22,7 +22,7 @@ pub fn number_at(numbers: &[u64; 65536], points: &[u32; 65536], i: usize) -> u64
 
 // What is kept in 32 bits, as numbers that can be put before lines.
 pub fn widen(places: &[u32; 65536], numbers: &mut [u64; 65536])
-    ensures* { ⊤ₛ }
+    ensures { Unit {0} }
 {
     for i in 0..65536usize {
         numbers[i] = place_of(places, i) as u64;

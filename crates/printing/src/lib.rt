@@ -7,61 +7,82 @@
 
 ghost use Rattle.std.specs.Prelude.{◌+◌, ◌<◌, ◌≤◌, length};
 
-use libc::STDOUT_FILENO;
+use std::io::{Error, Print};
+use std::rt::HostRuntime;
 use words::status::say_system;
+
+// The bytes that are still to be written, and the handle that writes them.
+pub struct Buffer {
+    bytes: [u8; 4096],
+    rt: HostRuntime,
+}
+
+impl Buffer {
+    // A buffer with nothing in it.
+    pub fn of(rt: HostRuntime) -> Buffer
+        ensures { Unit {0} }
+    {
+        Buffer {
+            bytes: [0; 4096],
+            rt,
+        }
+    }
+}
 
 // The place behind something that could not be written.
 pub const LOST: usize = 4097;
 
 // Says what the system says of standard output.
-pub fn say_lost()
+pub fn say_lost(error: Error)
     ensures { Unit {0} }
 {
-    say_system(b"standard output");
+    say_system(b"standard output", error);
 }
 
 // Writes the first `at` bytes, and whether they could be written.
-fn write_part(out: &[u8], at: usize) -> bool {
+fn write_part(rt: HostRuntime, out: &[u8], at: usize) -> bool {
     if out.len() < at {
         return false;
     }
-    if io::write_all(STDOUT_FILENO, &out[..at]) {
-        return true;
+    match rt.write_all(&out[..at]) {
+        Ok(()) => true,
+        Err(error) => {
+            say_lost(error);
+            false
+        }
     }
-    say_lost();
-    false
 }
 
 // Writes what is in the buffer; whether that and everything before it could be written.
-pub fn flush(out: &[u8; 4096], at: usize) -> bool
+pub fn flush(out: &Buffer, at: usize) -> bool
     ensures { Unit {0} }
 {
-    write_part(out, at)
+    write_part(out.rt, &out.bytes, at)
 }
 
 // Writes a buffer that is full and puts a byte at its start.
-fn byte_anew(out: &mut [u8; 4096], at: usize, b: u8) -> usize
+fn byte_anew(out: &mut Buffer, at: usize, b: u8) -> usize
     ensures { (0 < result) × (result ≤ 4097) }
 {
     if !flush(out, at) {
         return LOST;
     }
-    out[0] = b;
+    out.bytes[0] = b;
     1
 }
 
-pub fn byte(out: &mut [u8; 4096], at: usize, b: u8) -> usize
+pub fn byte(out: &mut Buffer, at: usize, b: u8) -> usize
     ensures { (0 < result) × (result ≤ 4097) }
 {
     if at < 4096 {
-        out[at] = b;
+        out.bytes[at] = b;
         return at + 1;
     }
     byte_anew(out, at, b)
 }
 
 // Puts bytes one by one, and writes the buffer when it is full.
-fn bytes_anew(out: &mut [u8; 4096], at: usize, what: &[u8]) -> usize {
+fn bytes_anew(out: &mut Buffer, at: usize, what: &[u8]) -> usize {
     let mut next = at;
     for i in 0..what.len() {
         next = byte(out, next, what[i]);
@@ -85,12 +106,12 @@ fn copy_to(out: &mut [u8], at: usize, what: &[u8])
     copy(&mut out[at..], what);
 }
 
-pub fn bytes(out: &mut [u8; 4096], at: usize, what: &[u8]) -> usize
+pub fn bytes(out: &mut Buffer, at: usize, what: &[u8]) -> usize
     ensures { Unit {0} }
 {
     if what.len() <= 4096 {
         if at <= 4096 - what.len() {
-            copy_to(out, at, what);
+            copy_to(&mut out.bytes, at, what);
             return at + what.len();
         }
     }
@@ -119,12 +140,12 @@ fn from(digits: &[u8], first: usize) -> &[u8] {
 }
 
 // Puts the digits from a place on.
-fn put_from(out: &mut [u8; 4096], at: usize, digits: &[u8; 20], first: usize) -> usize {
+fn put_from(out: &mut Buffer, at: usize, digits: &[u8; 20], first: usize) -> usize {
     bytes(out, at, from(digits, first))
 }
 
 // The digits of a number.
-pub fn number(out: &mut [u8; 4096], at: usize, n: u64) -> usize
+pub fn number(out: &mut Buffer, at: usize, n: u64) -> usize
     ensures { Unit {0} }
 {
     let mut digits = [0u8; 20];
@@ -133,14 +154,14 @@ pub fn number(out: &mut [u8; 4096], at: usize, n: u64) -> usize
 }
 
 // Three digits of a number below 1,000, noughts in front.
-fn three_digits(out: &mut [u8; 4096], at: usize, n: u64) -> usize {
+fn three_digits(out: &mut Buffer, at: usize, n: u64) -> usize {
     let a = byte(out, at, b'0' + (n / 100 % 10) as u8);
     let b = byte(out, a, b'0' + (n / 10 % 10) as u8);
     byte(out, b, b'0' + (n % 10) as u8)
 }
 
 // Three digits behind a point: n thousandths.
-pub fn thousandths(out: &mut [u8; 4096], at: usize, n: u64) -> usize
+pub fn thousandths(out: &mut Buffer, at: usize, n: u64) -> usize
     ensures { Unit {0} }
 {
     let a = number(out, at, n / 1000);
@@ -160,14 +181,14 @@ fn millionths_of(size: f64) -> u64 {
 }
 
 // Six digits behind a point: the size of a value, rounded.
-fn size(out: &mut [u8; 4096], at: usize, value: f64) -> usize {
+fn size(out: &mut Buffer, at: usize, value: f64) -> usize {
     let n = millionths_of(value);
     let a = thousandths(out, at, n / 1000);
     three_digits(out, a, n % 1000)
 }
 
 // A value, with six digits behind the point.
-pub fn value(out: &mut [u8; 4096], at: usize, value: f64) -> usize
+pub fn value(out: &mut Buffer, at: usize, value: f64) -> usize
     ensures { Unit {0} }
 {
     if value < 0.0 {

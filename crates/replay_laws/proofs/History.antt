@@ -27,8 +27,8 @@ module _ (t : Night) where
   pub said_length : (n : ℕ) → length (said_at t n) ≡ n
   said_length n = ap length (said_is n) ∙ length_list (answer_at t) n
 
-  said_at : (n j : ℕ) → j < n → at (said_at t n) j ≡ answer_at t j
-  said_at n j l = rw (said_is n) (get_or_list (answer_at t) n j 0 l)
+  at-said_at : (n j : ℕ) → j < n → at (said_at t n) j ≡ answer_at t j
+  at-said_at n j l = rw (said_is n) (get_or_list (answer_at t) n j 0 l)
 
   -- a cell's weight, by the answers one by one
   pub weight_is : (n c : ℕ) → weight_by t (said_at t n) c ≡ at t.start c + sum_where (λ j. eqb (answer_at t j) 0 && eqb (at t.cells j) c) (at t.amounts) n
@@ -37,7 +37,7 @@ module _ (t : Night) where
       rw (said_length n)
       (ap (λ (v : ℕ). at t.start c + v)
       (where_ext (at t.amounts) n (λ j. eqb (at (said_at t n) j) 0 && eqb (at t.cells j) c) (λ j. eqb (answer_at t j) 0 && eqb (at t.cells j) c)
-      (λ j l. ap (λ (v : ℕ). eqb v 0 && eqb (at t.cells j) c) (said_at n j l))))
+      (λ j l. ap (λ (v : ℕ). eqb v 0 && eqb (at t.cells j) c) (at-said_at n j l))))
 
   pub weights_length : (n : ℕ) → length (weights_at t n) ≡ length t.start
   unfolding weights_at weights_by

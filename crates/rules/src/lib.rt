@@ -100,28 +100,28 @@ pub const REFUSED_EDITION: u32 = 13;
 pub const REFUSED_FIRST: u32 = 14;
 
 // An encoder's answer.
-#[derive(Drop)]
+#[derive(Clone, Copy)]
 pub enum Coded {
     Index(u64),
     Refused(u32),
 }
 
 // The answer of a decoder in 2D: x, y.
-#[derive(Drop)]
+#[derive(Clone, Copy)]
 pub enum Cell2 {
     At(u64, u64),
     Refused(u32),
 }
 
 // The answer of a decoder in 3D: x, y, z.
-#[derive(Drop)]
+#[derive(Clone, Copy)]
 pub enum Cell3 {
     At(u64, u64, u64),
     Refused(u32),
 }
 
 // An axis record: flat, or sloped with its factor.
-#[derive(Drop)]
+#[derive(Clone, Copy)]
 pub enum Axis {
     Flat {
         low: f64,
@@ -137,28 +137,28 @@ pub enum Axis {
 }
 
 // The answer of making an axis.
-#[derive(Drop)]
+#[derive(Clone, Copy)]
 pub enum AxisAnswer {
     Made(Axis),
     Refused(u32),
 }
 
 // The answer of mapping a value on an axis.
-#[derive(Drop)]
+#[derive(Clone, Copy)]
 pub enum CellAnswer {
     Cell(u64),
     Refused(u32),
 }
 
 // Low and high of points on an axis.
-#[derive(Drop)]
+#[derive(Clone, Copy)]
 pub struct Extent {
     pub low: f64,
     pub high: f64,
 }
 
 // What describes a halving in 2D. The first cut is across the axis `first`: x is 0, y is 1.
-#[derive(Drop)]
+#[derive(Clone, Copy)]
 pub struct Halving2 {
     pub edition: u32,
     pub width: u32,
@@ -168,7 +168,7 @@ pub struct Halving2 {
 }
 
 // What describes a halving in 3D. The first cut is across the axis `first`: x is 0, y is 1, z is 2.
-#[derive(Drop)]
+#[derive(Clone, Copy)]
 pub struct Halving3 {
     pub edition: u32,
     pub width: u32,

@@ -14,7 +14,7 @@ ghost use Rattle.separators.specs.Separators.{is_separator, blank_byte, word_byt
 
 // What has been met of a text: on its line nothing but blanks, and whether a tab is among them; the comment of an empty line; a
 // word up to its last byte, a gap behind it (a blank or a closing quote), or an open quote; or what parts its fields.
-#[derive(Drop)]
+#[derive(Clone, Copy)]
 pub enum Sought {
     Blank(bool),
     Comment,
@@ -48,6 +48,7 @@ fn is_separator(b: u8) -> bool
 }
 
 // One byte more of a line that has a word, where no quote opens.
+#[tactic(auto, unfolding(crate::specs::Separators::word_byte))]
 fn word_byte(b: u8) -> Sought
     ensures { result ≡ word_byte b }
 {
@@ -64,6 +65,7 @@ fn word_byte(b: u8) -> Sought
 }
 
 // One byte more where a field may begin, or behind a closing quote: there a quote opens.
+#[tactic(auto, unfolding(crate::specs::Separators::open_byte))]
 fn open_byte(b: u8) -> Sought
     ensures { result ≡ open_byte b }
 {
@@ -129,6 +131,7 @@ fn comment_byte(b: u8) -> Sought
 }
 
 // What has been met with one byte more.
+#[tactic(auto, unfolding(crate::specs::Separators::sought_byte))]
 fn step(met: Sought, b: u8) -> Sought
     ensures { result ≡ sought_byte met b }
 {

@@ -1,4 +1,4 @@
-// The C interface, built by `rt staticlib skarvolm`; include/skarvolm.h declares it.
+// The C interface, which `skarvolm_c` exports; include/skarvolm.h declares it.
 //
 // Each function hands its call on: values behind pointers are those of `curve_out` and `axis_out`, 0 after a refusal; a slice is a pointer and a
 // length, and is as it was after a refusal. Number and values are those that the rules' answers stand for (`read_coded` and its like). No second
@@ -16,16 +16,14 @@ ghost use Rattle.skarvolm.specs.Calls.{in2, in3, rcb2, rcb3, halve2, halve3, rep
 use rules::{EDITION_2, Extent, Halving2, Halving3};
 
 // The bits of `source` laid onto the set bits of `mask`.
-#[unsafe(no_mangle)]
-pub extern "C" fn skarvolm_deposit(source: u64, mask: u64) -> u64
+pub fn skarvolm_deposit(source: u64, mask: u64) -> u64
     ensures { result ≡ deposit_of source mask }
 {
     curve::deposit(source, mask)
 }
 
 // The index of a cell.
-#[unsafe(no_mangle)]
-pub extern "C" fn skarvolm_encode_2d(x: u64, y: u64, order: u32, index: &mut u64) -> u32
+pub fn skarvolm_encode_2d(x: u64, y: u64, order: u32, index: &mut u64) -> u32
     ensures number { result ≡ (read_coded (encode2 x y order)).number }
     ensures value { index.new ≡ (read_coded (encode2 x y order)).value }
 {
@@ -33,8 +31,7 @@ pub extern "C" fn skarvolm_encode_2d(x: u64, y: u64, order: u32, index: &mut u64
 }
 
 // The index of a cell in 3D.
-#[unsafe(no_mangle)]
-pub extern "C" fn skarvolm_encode_3d(x: u64, y: u64, z: u64, order: u32, index: &mut u64) -> u32
+pub fn skarvolm_encode_3d(x: u64, y: u64, z: u64, order: u32, index: &mut u64) -> u32
     ensures number { result ≡ (read_coded (encode3 x y z order)).number }
     ensures value { index.new ≡ (read_coded (encode3 x y z order)).value }
 {
@@ -42,8 +39,7 @@ pub extern "C" fn skarvolm_encode_3d(x: u64, y: u64, z: u64, order: u32, index: 
 }
 
 // The cell of an index.
-#[unsafe(no_mangle)]
-pub extern "C" fn skarvolm_decode_2d(index: u64, order: u32, x: &mut u64, y: &mut u64) -> u32
+pub fn skarvolm_decode_2d(index: u64, order: u32, x: &mut u64, y: &mut u64) -> u32
     ensures number { result ≡ (read_cell2 (decode2 index order)).number }
     ensures x { x.new ≡ get_or (read_cell2 (decode2 index order)).value 0 0 }
     ensures y { y.new ≡ get_or (read_cell2 (decode2 index order)).value 1 0 }
@@ -52,14 +48,7 @@ pub extern "C" fn skarvolm_decode_2d(index: u64, order: u32, x: &mut u64, y: &mu
 }
 
 // The cell of an index in 3D.
-#[unsafe(no_mangle)]
-pub extern "C" fn skarvolm_decode_3d(
-    index: u64,
-    order: u32,
-    x: &mut u64,
-    y: &mut u64,
-    z: &mut u64,
-) -> u32
+pub fn skarvolm_decode_3d(index: u64, order: u32, x: &mut u64, y: &mut u64, z: &mut u64) -> u32
     ensures number { result ≡ (read_cell3 (decode3 index order)).number }
     ensures x { x.new ≡ get_or (read_cell3 (decode3 index order)).value 0 0 }
     ensures y { y.new ≡ get_or (read_cell3 (decode3 index order)).value 1 0 }
@@ -69,8 +58,7 @@ pub extern "C" fn skarvolm_decode_3d(
 }
 
 // The cell of a value: makes the axis, then the cell.
-#[unsafe(no_mangle)]
-pub extern "C" fn skarvolm_cell(low: f64, high: f64, order: u32, value: f64, cell: &mut u64) -> u32
+pub fn skarvolm_cell(low: f64, high: f64, order: u32, value: f64, cell: &mut u64) -> u32
     ensures number { result ≡ (read_cell (cell_between low high order value)).number }
     ensures value { cell.new ≡ (read_cell (cell_between low high order value)).value }
 {
@@ -78,8 +66,7 @@ pub extern "C" fn skarvolm_cell(low: f64, high: f64, order: u32, value: f64, cel
 }
 
 // The indices of all points.
-#[unsafe(no_mangle)]
-pub extern "C" fn skarvolm_index_2d(xs: &[f64], ys: &[f64], order: u32, indices: &mut [u64]) -> u32
+pub fn skarvolm_index_2d(xs: &[f64], ys: &[f64], order: u32, indices: &mut [u64]) -> u32
     ensures number { result ≡ (index_all2 xs.now ys.now order indices.old).number }
     ensures filed { indices.new ≡ (index_all2 xs.now ys.now order indices.old).indices }
 {
@@ -87,14 +74,7 @@ pub extern "C" fn skarvolm_index_2d(xs: &[f64], ys: &[f64], order: u32, indices:
 }
 
 // The indices of all points in 3D.
-#[unsafe(no_mangle)]
-pub extern "C" fn skarvolm_index_3d(
-    xs: &[f64],
-    ys: &[f64],
-    zs: &[f64],
-    order: u32,
-    indices: &mut [u64],
-) -> u32
+pub fn skarvolm_index_3d(xs: &[f64], ys: &[f64], zs: &[f64], order: u32, indices: &mut [u64]) -> u32
     ensures number { result ≡ (index_all3 xs.now ys.now zs.now order indices.old).number }
     ensures filed { indices.new ≡ (index_all3 xs.now ys.now zs.now order indices.old).indices }
 {
@@ -102,8 +82,7 @@ pub extern "C" fn skarvolm_index_3d(
 }
 
 // The indices of all points on axes from low to high.
-#[unsafe(no_mangle)]
-pub extern "C" fn skarvolm_index_2d_in(
+pub fn skarvolm_index_2d_in(
     xlow: f64,
     xhigh: f64,
     ylow: f64,
@@ -128,8 +107,7 @@ pub extern "C" fn skarvolm_index_2d_in(
 }
 
 // The indices of all points on axes from low to high in 3D.
-#[unsafe(no_mangle)]
-pub extern "C" fn skarvolm_index_3d_in(
+pub fn skarvolm_index_3d_in(
     xlow: f64,
     xhigh: f64,
     ylow: f64,
@@ -161,8 +139,7 @@ pub extern "C" fn skarvolm_index_3d_in(
 }
 
 // The splits and ids of a halved grid, by edition 1, across y first.
-#[unsafe(no_mangle)]
-pub extern "C" fn skarvolm_rcb_2d(
+pub fn skarvolm_rcb_2d(
     width: u32,
     height: u32,
     depth: u32,
@@ -179,8 +156,7 @@ pub extern "C" fn skarvolm_rcb_2d(
 }
 
 // The splits and ids of a halved grid in 3D, by edition 1, across y first.
-#[unsafe(no_mangle)]
-pub extern "C" fn skarvolm_rcb_3d(
+pub fn skarvolm_rcb_3d(
     width: u32,
     height: u32,
     layers: u32,
@@ -198,8 +174,7 @@ pub extern "C" fn skarvolm_rcb_3d(
 }
 
 // The splits and ids of a halved grid, by the edition of a number, across the axis `first` first.
-#[unsafe(no_mangle)]
-pub extern "C" fn skarvolm_halve_2d(
+pub fn skarvolm_halve_2d(
     edition: u32,
     width: u32,
     height: u32,
@@ -224,8 +199,7 @@ pub extern "C" fn skarvolm_halve_2d(
 }
 
 // The splits and ids of a halved grid in 3D, by the edition of a number, across the axis `first` first.
-#[unsafe(no_mangle)]
-pub extern "C" fn skarvolm_halve_3d(
+pub fn skarvolm_halve_3d(
     edition: u32,
     width: u32,
     height: u32,
@@ -252,8 +226,7 @@ pub extern "C" fn skarvolm_halve_3d(
 }
 
 // The parts of points along the curve, and the points in order.
-#[unsafe(no_mangle)]
-pub extern "C" fn skarvolm_parts(
+pub fn skarvolm_parts(
     n: u32,
     indices: &[u64],
     weights: &[u64],
@@ -268,8 +241,7 @@ pub extern "C" fn skarvolm_parts(
 }
 
 // A bench night replayed on a grid, by edition 2: the weights, answers, splits and ids after it.
-#[unsafe(no_mangle)]
-pub extern "C" fn skarvolm_replay_2d(
+pub fn skarvolm_replay_2d(
     width: u32,
     height: u32,
     first: u32,
@@ -298,8 +270,7 @@ pub extern "C" fn skarvolm_replay_2d(
 }
 
 // A bench night replayed on a grid in 3D, by edition 2: the weights, answers, splits and ids after it.
-#[unsafe(no_mangle)]
-pub extern "C" fn skarvolm_replay_3d(
+pub fn skarvolm_replay_3d(
     width: u32,
     height: u32,
     layers: u32,

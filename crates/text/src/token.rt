@@ -14,7 +14,7 @@ pub enum Token {
 }
 
 // What is passed over.
-#[derive(Drop)]
+#[derive(Clone, Copy)]
 pub enum Run {
     Gaps,
     Comment,
@@ -38,6 +38,7 @@ fn is_gap(b: u8) -> bool
 }
 
 // Whether a run ends before a byte.
+#[tactic(auto, unfolding(crate::specs::Tokens::stops_of))]
 fn stops(run: Run, b: u8) -> bool
     ensures { result ≡ stops_of run b }
 {
@@ -71,6 +72,7 @@ fn run_end(text: &[u8], at: usize, run: Run) -> usize
 }
 
 // What stands next in the text from `at` on.
+#[tactic(auto, unfolding(crate::specs::Tokens::token_at))]
 pub fn next_token(text: &[u8], at: usize) -> Token
     ensures { result ≡ token_at text.now at }
 {

@@ -122,7 +122,7 @@ pub fn read(
     weights: &mut [u64; 65536],
     faults: &mut [usize; 61],
 ) -> Grid
-    ensures* { ⊤ₛ }
+    ensures { Unit {0} }
 {
     let rows = read_rows(text, separator, weights, faults);
     let grid = with_layer(rows, text.len(), faults);

@@ -13,7 +13,7 @@ pub fn read(
     indices: &mut [u64; 65536],
     faults: &mut [usize; 61],
 ) -> usize
-    ensures* { ⊤ₛ }
+    ensures { Unit {0} }
 {
     let mut count: usize = 0;
     let mut at = first;

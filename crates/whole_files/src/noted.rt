@@ -13,7 +13,7 @@ pub const BOX: usize = 6;
 
 // Puts the words of a list's first line into a line of zeros.
 pub fn read(text: &[u8], note: &mut [u8; 4096])
-    ensures* { ⊤ₛ }
+    ensures { Unit {0} }
 {
     parted(note, part(text, 0, line_end(text, 0)));
 }

@@ -67,7 +67,7 @@ pub fn read(
     before: usize,
     faults: &mut [usize; 61],
 ) -> Row
-    ensures* { ⊤ₛ }
+    ensures { Unit {0} }
 {
     let mut next = at;
     for k in 0..text.len() {

@@ -41,6 +41,7 @@ fn digit_on(value: u64, b: u8, at: usize) -> Whole
     Whole::Value(10 * value + d)
 }
 
+#[tactic(auto, unfolding(crate::specs::Wholes::whole_step))]
 fn step(met: Whole, b: u8, at: usize) -> Whole
     ensures { result ≡ whole_step met b at }
 {
@@ -53,6 +54,7 @@ fn step(met: Whole, b: u8, at: usize) -> Whole
 }
 
 // The word's value, or where it is wrong.
+#[tactic(auto, unfolding(crate::specs::Wholes::whole_to, crate::specs::Wholes::whole_of))]
 pub fn whole_of(word: &[u8]) -> Whole
     ensures { result ≡ whole_of word.now }
 {

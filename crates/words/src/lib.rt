@@ -8,6 +8,9 @@ pub mod status;
 
 ghost use Rattle.std.specs.Prelude.{◌≡◌, T, ◌≤◌, length};
 
+use std::env::{Env, FillError};
+use std::rt::HostRuntime;
+
 // Where word `i` starts, or the end of the bytes where there are fewer.
 fn start_of(line: &[u8], i: usize) -> usize
     ensures { result ≤ length line.now }
@@ -144,30 +147,51 @@ fn append(line: &mut [u8; 4096], n: usize, what: &[u8]) -> usize {
     put(line, next, b'\n')
 }
 
-// Puts argument `i` behind the first `n` bytes of the line; how many bytes the line has then.
-fn with_argument(line: &mut [u8; 4096], n: usize, i: usize) -> usize {
+// Puts argument `i` at the start of the room; how many bytes it has, none where it has no room. `None` behind the last argument.
+pub fn argument(rt: HostRuntime, i: usize, room: &mut [u8; 4096]) -> Option<usize>
+    ensures { Unit {0} }
+{
+    match rt.arg(i, room) {
+        Ok(size) => Some(size),
+        Err(FillError::TooLong) => Some(0),
+        Err(FillError::NotPresent) => None,
+    }
+}
+
+// The first n bytes, or none where there are fewer.
+fn first(bytes: &[u8], n: usize) -> &[u8] {
+    if bytes.len() < n {
+        return &bytes[..0];
+    }
+    &bytes[..n]
+}
+
+// Puts argument `i` behind the first `n` bytes of the line; how many bytes the line has then. `None` behind the last argument.
+fn with_argument(rt: HostRuntime, line: &mut [u8; 4096], n: usize, i: usize) -> Option<usize> {
     let mut buffer = io::buffer();
-    let size = os::arg(i, &mut buffer);
-    append(line, n, &buffer[..size])
+    match argument(rt, i, &mut buffer) {
+        Some(size) => Some(append(line, n, first(&buffer, size))),
+        None => None,
+    }
 }
 
 // Puts the words that the program was started with into a line of zeros; how many bytes they take.
-pub fn arguments(line: &mut [u8; 4096]) -> usize
-    ensures* { ⊤ₛ }
+pub fn arguments(rt: HostRuntime, line: &mut [u8; 4096]) -> usize
+    ensures { Unit {0} }
 {
-    let count = os::arg_count();
     let mut n: usize = 0;
-    let mut i: usize = 1;
-    while i < count {
-        n = with_argument(line, n, i);
-        i += 1;
+    for i in 1..usize::MAX {
+        let Some(next) = with_argument(rt, line, n, i) else {
+            return n;
+        };
+        n = next;
     }
     n
 }
 
 // Puts the words of a text, which spaces part, into a line of zeros; how many bytes they take.
 pub fn parted(line: &mut [u8; 4096], what: &[u8]) -> usize
-    ensures* { ⊤ₛ }
+    ensures { Unit {0} }
 {
     let mut next: usize = 0;
     let mut i: usize = 0;
