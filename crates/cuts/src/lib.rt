@@ -1,6 +1,6 @@
 // The weight of a block, and where a block is cut across an axis, inside: the trees and `halve` call it.
 //
-// The cut is the rule's, and the left weight that is handed on is that of the first part (cut-on); the second part weighs the
+// The cut is the rule's, and the left weight that is handed on is that of the first part (cut_on); the second part weighs the
 // rest; both lie in the grid (first_sound, second_sound). A cut fills the first sums with the lines' weights, and those behind
 // stay (cut_block_only).
 #![tactic(auto)]
@@ -17,7 +17,7 @@ use lines::Stack;
 use median::WeightedMedian;
 
 // A cut: its split in grid coordinates, the part before it and what that weighs, and the rest.
-#[derive(Drop)]
+#[derive(Clone, Copy)]
 pub struct Cut {
     pub split: u32,
     pub first: SubGrid,
