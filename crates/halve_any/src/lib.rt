@@ -9,7 +9,7 @@ ghost use Rattle.halve_any.specs.AnyHalving.{any_halving};
 use rules::{Halving2, Halving3};
 
 // What describes a halving, in 2D or 3D.
-#[derive(Drop)]
+#[derive(Clone, Copy)]
 pub enum AnyHalving {
     Flat(Halving2),
     Solid(Halving3),
