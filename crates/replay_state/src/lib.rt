@@ -21,7 +21,7 @@ use halve_any::AnyHalving;
 use tallies::Tally;
 
 // The sums of all cells and of the heaviest line, and the id of a heaviest part.
-#[derive(Drop)]
+#[derive(Clone, Copy)]
 pub struct State {
     pub tally: Tally,
     pub most: usize,

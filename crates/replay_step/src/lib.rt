@@ -15,7 +15,7 @@ use replay_state::State;
 use rules::ANSWERED;
 
 // An event's answer, and what is known after it.
-#[derive(Drop)]
+#[derive(Clone, Copy)]
 pub struct Stepped {
     pub said: u32,
     pub state: State,

@@ -16,7 +16,7 @@ ghost use Rattle.tally_laws.specs.Added.{raised, lines_with, Raisable, Fits, Add
 ghost use Rattle.tally_laws.specs.Tallied.{Tallied};
 
 // The weight of all cells, and that of the heaviest line.
-#[derive(Drop)]
+#[derive(Clone, Copy)]
 pub struct Tally {
     pub all: u64,
     pub heaviest: u64,
