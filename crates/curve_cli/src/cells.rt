@@ -2,19 +2,21 @@
 use crate::list::Setting;
 use crate::ranges::put_range;
 use knot_rows::ends::of_words;
+use printing::Buffer;
 use rules::{Cell2, Cell3};
+use std::rt::HostRuntime;
 use whole_files::noted;
 use words::status::of_output;
 
 // Puts a coordinate of a cell.
-fn put(buffer: &mut [u8; 4096], at: usize, n: u64) -> usize {
+fn put(buffer: &mut Buffer, at: usize, n: u64) -> usize {
     let next = printing::byte(buffer, at, b',');
     printing::number(buffer, next, n)
 }
 
 // Puts a cell in 2D, and its ranges where the box is known.
 fn put_2d(
-    buffer: &mut [u8; 4096],
+    buffer: &mut Buffer,
     at: usize,
     index: u64,
     order: u32,
@@ -36,7 +38,7 @@ fn put_2d(
 
 // Puts a cell in 3D, and its ranges where the box is known.
 fn put_3d(
-    buffer: &mut [u8; 4096],
+    buffer: &mut Buffer,
     at: usize,
     index: u64,
     order: u32,
@@ -60,7 +62,7 @@ fn put_3d(
 
 // Puts the line of an index.
 fn put_index(
-    buffer: &mut [u8; 4096],
+    buffer: &mut Buffer,
     at: usize,
     index: u64,
     setting: Setting,
@@ -78,13 +80,14 @@ fn put_index(
 
 // Prints the lines of n indices.
 fn print_all(
+    rt: HostRuntime,
     indices: &[u64; 65536],
     n: usize,
     setting: Setting,
     boxed: bool,
     ends: &[f64; 6],
 ) -> u8 {
-    let mut buffer = [0u8; 4096];
+    let mut buffer = Buffer::of(rt);
     let mut at: usize = 0;
     for i in 0..65536usize {
         if i < n {
@@ -111,8 +114,14 @@ fn box_of(note: &[u8], count: usize, ends: &mut [f64; 6]) -> bool {
 }
 
 // Prints the cells of n indices.
-pub(crate) fn print(indices: &[u64; 65536], n: usize, setting: Setting, note: &[u8]) -> u8 {
+pub(crate) fn print(
+    rt: HostRuntime,
+    indices: &[u64; 65536],
+    n: usize,
+    setting: Setting,
+    note: &[u8],
+) -> u8 {
     let mut ends = [0.0f64; 6];
     let boxed = box_of(note, ends_of(setting.solid), &mut ends);
-    print_all(indices, n, setting, boxed, &ends)
+    print_all(rt, indices, n, setting, boxed, &ends)
 }

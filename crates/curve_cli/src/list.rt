@@ -5,6 +5,7 @@ use console::files::Size;
 use console::lines::{first_line, line_end};
 use console::{faults, files};
 use fields::separator_of;
+use std::rt::HostRuntime;
 use whole_files::noted;
 use whole_files::noted::headed;
 use whole_files::row::Limit;
@@ -12,7 +13,7 @@ use words::status::FAILED;
 use words::{number_of, same, word};
 
 // The order of a list, and whether it is in 3D.
-#[derive(Drop)]
+#[derive(Clone, Copy)]
 pub struct Setting {
     pub order: u32,
     pub solid: bool,
@@ -101,6 +102,7 @@ fn limit_of(setting: Setting) -> Limit {
 
 // Reads the indices from `first` on, all on a line or the first `most`, and prints their cells.
 fn decode(
+    rt: HostRuntime,
     path: &[u8],
     text: &[u8],
     first: usize,
@@ -124,7 +126,7 @@ fn decode(
         say_all(path, text, separator, &kept);
         return FAILED;
     }
-    cells::print(&indices, count, setting, note)
+    cells::print(rt, &indices, count, setting, note)
 }
 
 // The highest order.
@@ -136,7 +138,7 @@ fn top(solid: bool) -> u32 {
 }
 
 // Decodes a list: the first column where its first line or a header says what it holds, else every field.
-fn decode_list(path: &[u8], text: &[u8], setting: Setting, note: &[u8]) -> u8 {
+fn decode_list(rt: HostRuntime, path: &[u8], text: &[u8], setting: Setting, note: &[u8]) -> u8 {
     if top(setting.solid) < setting.order {
         faults::refused(path, rules::REFUSED_ORDER);
         return FAILED;
@@ -144,16 +146,16 @@ fn decode_list(path: &[u8], text: &[u8], setting: Setting, note: &[u8]) -> u8 {
     let separator = separator_of(text);
     let first = first_line(text, 0, separator);
     if headed(text, first, separator) {
-        return decode(path, text, line_end(text, first), 1, setting, note);
+        return decode(rt, path, text, line_end(text, first), 1, setting, note);
     }
     if noted::known(note) {
-        return decode(path, text, first, 1, setting, note);
+        return decode(rt, path, text, first, 1, setting, note);
     }
-    decode(path, text, first, text.len(), setting, note)
+    decode(rt, path, text, first, text.len(), setting, note)
 }
 
 // Decodes a text as the command and the text itself say.
-fn decode_text(line: &[u8], text: &[u8], note: &[u8]) -> u8 {
+fn decode_text(rt: HostRuntime, line: &[u8], text: &[u8], note: &[u8]) -> u8 {
     let path = word(line, 2);
     if noted::of_parts(path, note) {
         return FAILED;
@@ -169,24 +171,24 @@ fn decode_text(line: &[u8], text: &[u8], note: &[u8]) -> u8 {
         order: order_of(line, note),
         solid: solid(line, note),
     };
-    decode_list(path, text, setting, note)
+    decode_list(rt, path, text, setting, note)
 }
 
-fn decode_by(line: &[u8], text: &[u8], note: &[u8; 4096]) -> u8 {
-    decode_text(line, text, note)
+fn decode_by(rt: HostRuntime, line: &[u8], text: &[u8], note: &[u8; 4096]) -> u8 {
+    decode_text(rt, line, text, note)
 }
 
 // Decodes a text as the command and its first line say.
-fn decode_noted(line: &[u8], text: &[u8]) -> u8 {
+fn decode_noted(rt: HostRuntime, line: &[u8], text: &[u8]) -> u8 {
     let mut note = [0u8; 4096];
     noted::read(text, &mut note);
-    decode_by(line, text, &note)
+    decode_by(rt, line, text, &note)
 }
 
-pub(crate) fn command(line: &[u8], bytes: &mut [u8; 4194304]) -> u8 {
-    let read = files::read(word(line, 2), bytes);
+pub(crate) fn command(rt: HostRuntime, line: &[u8], bytes: &mut [u8; 4194304]) -> u8 {
+    let read = files::read(rt, word(line, 2), bytes);
     let Size::Bytes(size) = read else {
         return FAILED;
     };
-    decode_noted(line, files::text(bytes, size))
+    decode_noted(rt, line, files::text(bytes, size))
 }

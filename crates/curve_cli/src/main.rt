@@ -9,37 +9,40 @@ mod list;
 mod picture;
 mod ranges;
 
+use std::rt::HostRuntime;
 use words::place;
 use words::status::{DONE, FAILED, misused};
 
 // Writes the numbers of refusal.
-fn refusals() -> u8 {
-    if console::meanings::numbers(libc::STDOUT_FILENO) {
-        return DONE;
+fn refusals(rt: HostRuntime) -> u8 {
+    match console::meanings::numbers(rt) {
+        Ok(()) => DONE,
+        Err(error) => {
+            printing::say_lost(error);
+            FAILED
+        }
     }
-    printing::say_lost();
-    FAILED
 }
 
 // Carries out a command.
-fn carry_out(line: &[u8], bytes: &mut [u8; 4194304]) -> u8 {
+fn carry_out(rt: HostRuntime, line: &[u8], bytes: &mut [u8; 4194304]) -> u8 {
     let which = place(line, 1, b"cells\npicture\nrefusals\n");
     match which {
-        0 => list::command(line, bytes),
-        1 => picture::command(line),
-        2 => refusals(),
+        0 => list::command(rt, line, bytes),
+        1 => picture::command(rt, line),
+        2 => refusals(rt),
         _ => misused(),
     }
 }
 
-fn carry_out_in(line: &[u8; 4096], bytes: &mut [u8; 4194304]) {
-    let status = carry_out(line, bytes);
+fn carry_out_in(rt: HostRuntime, line: &[u8; 4096], bytes: &mut [u8; 4194304]) {
+    let status = carry_out(rt, line, bytes);
     words::status::report(line, status);
 }
 
-fn main() {
+fn main(rt: HostRuntime) {
     let mut line = [0u8; 4096];
-    words::arguments(&mut line);
+    words::arguments(rt, &mut line);
     let mut bytes = [0u8; 4194304];
-    carry_out_in(&line, &mut bytes);
+    carry_out_in(rt, &line, &mut bytes);
 }

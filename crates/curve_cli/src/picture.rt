@@ -5,7 +5,9 @@ use drawing::ends::Place;
 use drawing::ticks::Cells;
 use drawing::titles::{put_count, put_head};
 use drawing::{ends, ticks};
+use printing::Buffer;
 use rules::Cell2;
+use std::rt::HostRuntime;
 use words::status::{FAILED, of_output};
 use words::{number_of, word};
 
@@ -20,7 +22,7 @@ const TOP: u64 = 1000;
 const WRITTEN: u32 = 4;
 
 // Puts a cell's centre, in cells.
-fn put_centre(buffer: &mut [u8; 4096], at: usize, index: u64, order: u32) -> usize {
+fn put_centre(buffer: &mut Buffer, at: usize, index: u64, order: u32) -> usize {
     let cell = decoding_2d::decode_2d(index, order);
     let Cell2::At(x, y) = cell else {
         return at;
@@ -33,7 +35,7 @@ fn put_centre(buffer: &mut [u8; 4096], at: usize, index: u64, order: u32) -> usi
 }
 
 // Ends a stretch of the curve, and starts another in the hue of its first index.
-fn put_stretch(buffer: &mut [u8; 4096], at: usize, index: u64, cells: u64) -> usize {
+fn put_stretch(buffer: &mut Buffer, at: usize, index: u64, cells: u64) -> usize {
     if cells == 0 {
         return at;
     }
@@ -52,7 +54,7 @@ fn steps(order: u32) -> u64 {
 }
 
 // Puts the curve in stretches, each of which begins where the last one ended.
-fn put_stretches(buffer: &mut [u8; 4096], at: usize, order: u32, cells: u64) -> usize {
+fn put_stretches(buffer: &mut Buffer, at: usize, order: u32, cells: u64) -> usize {
     let mut next = at;
     let mut left = steps(order);
     for i in 0..65536u64 {
@@ -124,7 +126,7 @@ fn middle_of(corner: Place, size: u64) -> Place {
 }
 
 // Puts the curve.
-fn put_curve(buffer: &mut [u8; 4096], at: usize, order: u32) -> usize {
+fn put_curve(buffer: &mut Buffer, at: usize, order: u32) -> usize {
     let a = printing::bytes(buffer, at, b"<g transform='translate(500 1000) scale(");
     let b = printing::number(buffer, a, taken(1, order));
     let c = printing::bytes(
@@ -137,7 +139,7 @@ fn put_curve(buffer: &mut [u8; 4096], at: usize, order: u32) -> usize {
 }
 
 // Puts the index of a cell in its corner.
-fn put_index(buffer: &mut [u8; 4096], at: usize, index: u64, order: u32) -> usize {
+fn put_index(buffer: &mut Buffer, at: usize, index: u64, order: u32) -> usize {
     let corner = corner_of(index, order);
     let a = printing::bytes(buffer, at, b"<text x='");
     let b = printing::number(buffer, a, std::num::wrapping_add_u64(corner.x, 20));
@@ -149,7 +151,7 @@ fn put_index(buffer: &mut [u8; 4096], at: usize, index: u64, order: u32) -> usiz
 }
 
 // Puts the index of each cell, at low orders.
-fn put_indices(buffer: &mut [u8; 4096], at: usize, order: u32) -> usize {
+fn put_indices(buffer: &mut Buffer, at: usize, order: u32) -> usize {
     if WRITTEN < order {
         return at;
     }
@@ -168,7 +170,7 @@ fn put_indices(buffer: &mut [u8; 4096], at: usize, order: u32) -> usize {
 }
 
 // Puts the numbers of columns and lines, and the frame.
-fn put_frame(buffer: &mut [u8; 4096], at: usize, order: u32) -> usize {
+fn put_frame(buffer: &mut Buffer, at: usize, order: u32) -> usize {
     let cells = Cells {
         x: LEFT,
         y: TOP,
@@ -186,7 +188,7 @@ fn put_frame(buffer: &mut [u8; 4096], at: usize, order: u32) -> usize {
 }
 
 // Puts marks on the first and the last cell.
-fn put_ends(buffer: &mut [u8; 4096], at: usize, order: u32) -> usize {
+fn put_ends(buffer: &mut Buffer, at: usize, order: u32) -> usize {
     let size = taken(1, order);
     let last = std::num::wrapping_sub_u64(cells_of(order), 1);
     let a = printing::bytes(buffer, at, b"<g fill='none'>\n");
@@ -202,7 +204,7 @@ fn put_ends(buffer: &mut [u8; 4096], at: usize, order: u32) -> usize {
 }
 
 // Puts what the picture is.
-fn put_title(buffer: &mut [u8; 4096], at: usize, order: u32) -> usize {
+fn put_title(buffer: &mut Buffer, at: usize, order: u32) -> usize {
     let a = printing::bytes(
         buffer,
         at,
@@ -224,8 +226,8 @@ fn put_title(buffer: &mut [u8; 4096], at: usize, order: u32) -> usize {
 }
 
 // Draws the curve of an order up to 8; of a higher order it draws the curve of 8.
-fn draw(order: u32) -> u8 {
-    let mut buffer = [0u8; 4096];
+fn draw(rt: HostRuntime, order: u32) -> u8 {
+    let mut buffer = Buffer::of(rt);
     let a = put_head(&mut buffer, 0, 840, 890);
     let b = put_title(&mut buffer, a, order);
     let c = printing::bytes(&mut buffer, b, b"<g transform='scale(.1)'>\n");
@@ -237,7 +239,7 @@ fn draw(order: u32) -> u8 {
     of_output(printing::flush(&buffer, h))
 }
 
-pub(crate) fn command(line: &[u8]) -> u8 {
+pub(crate) fn command(rt: HostRuntime, line: &[u8]) -> u8 {
     let order = number_of(word(line, 3));
     if 8 < order {
         faults::of(
@@ -246,5 +248,5 @@ pub(crate) fn command(line: &[u8]) -> u8 {
         );
         return FAILED;
     }
-    draw(order)
+    draw(rt, order)
 }

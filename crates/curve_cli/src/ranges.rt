@@ -1,4 +1,5 @@
 // The range of values that a cell stands for, to six places behind the point.
+use printing::Buffer;
 
 // The cells along an axis.
 fn cells_of(order: u32) -> f64 {
@@ -12,7 +13,7 @@ fn start_of(low: f64, high: f64, order: u32, cell: u64) -> f64 {
 
 // Puts from where to where a cell goes on an axis.
 fn put_between(
-    buffer: &mut [u8; 4096],
+    buffer: &mut Buffer,
     at: usize,
     low: f64,
     high: f64,
@@ -31,7 +32,7 @@ fn put_between(
 
 // Puts the range of a cell on an axis of the box.
 pub(crate) fn put_range(
-    buffer: &mut [u8; 4096],
+    buffer: &mut Buffer,
     at: usize,
     ends: &[f64; 6],
     axis: usize,

@@ -1,9 +1,10 @@
 // Colours of parts.
+use printing::Buffer;
 
 // Puts the colour of a part. The hue of one part is 137.508 degrees from that of the next, so that of a few parts any two are far apart. Of
 // more parts those come near that are 5, 8, 13, 21 or 34 apart, by 32, 20, 12, 8 and 5 degrees; those differ in lightness, or at 21 in
 // saturation.
-pub fn put_colour(buffer: &mut [u8; 4096], at: usize, part: u64) -> usize
+pub fn put_colour(buffer: &mut Buffer, at: usize, part: u64) -> usize
     ensures { Unit {0} }
 {
     let n = part % 4096;

@@ -1,14 +1,15 @@
 // The first and the last of what is joined: a square around the one and a diamond around the other, with their names, in tenths of a pixel.
+use printing::Buffer;
 
 // A place in a picture.
-#[derive(Drop)]
+#[derive(Clone, Copy)]
 pub struct Place {
     pub x: u64,
     pub y: u64,
 }
 
 // Puts a shape around a place.
-fn put_shape(buffer: &mut [u8; 4096], at: usize, place: Place, shape: &[u8]) -> usize {
+fn put_shape(buffer: &mut Buffer, at: usize, place: Place, shape: &[u8]) -> usize {
     let a = printing::bytes(buffer, at, b"<path stroke='black' stroke-width='14' d='M");
     let b = printing::number(buffer, a, place.x);
     let c = printing::byte(buffer, b, b' ');
@@ -18,7 +19,7 @@ fn put_shape(buffer: &mut [u8; 4096], at: usize, place: Place, shape: &[u8]) -> 
 }
 
 // Puts where a name begins, or ends where its place is right of the middle.
-fn put_beside(buffer: &mut [u8; 4096], at: usize, x: u64, middle: u64) -> usize {
+fn put_beside(buffer: &mut Buffer, at: usize, x: u64, middle: u64) -> usize {
     if x < middle {
         return printing::number(buffer, at, std::num::wrapping_add_u64(x, 160));
     }
@@ -27,7 +28,7 @@ fn put_beside(buffer: &mut [u8; 4096], at: usize, x: u64, middle: u64) -> usize 
 }
 
 // Puts a name beside a place.
-fn put_name(buffer: &mut [u8; 4096], at: usize, x: u64, y: u64, middle: u64, name: &[u8]) -> usize {
+fn put_name(buffer: &mut Buffer, at: usize, x: u64, y: u64, middle: u64, name: &[u8]) -> usize {
     let a = printing::bytes(buffer, at, b"<text x='");
     let b = put_beside(buffer, a, x, middle);
     let c = printing::bytes(buffer, b, b"' y='");
@@ -65,7 +66,7 @@ fn height(first: Place, last: Place, middle: u64) -> u64 {
 
 // Puts both, and their names on the side of the middle; where there is one alone it has both.
 pub fn put(
-    buffer: &mut [u8; 4096],
+    buffer: &mut Buffer,
     at: usize,
     alone: bool,
     first: Place,

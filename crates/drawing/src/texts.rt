@@ -1,8 +1,9 @@
 // Text out of a file or a command as it stands in a picture: letters of UTF-8, each by its number where it is none of ASCII, so that
 // the picture is well-formed whatever the file has. What is no letter stands as U+FFFD.
+use printing::Buffer;
 
 // A letter's number and how many bytes it takes.
-#[derive(Drop)]
+#[derive(Clone, Copy)]
 pub struct Letter {
     pub code: u32,
     pub width: usize,
@@ -87,14 +88,14 @@ fn letter_at(text: &[u8], i: usize) -> Letter {
 }
 
 // Puts a letter by its number.
-fn put_number(buffer: &mut [u8; 4096], at: usize, code: u32) -> usize {
+fn put_number(buffer: &mut Buffer, at: usize, code: u32) -> usize {
     let a = printing::bytes(buffer, at, b"&#");
     let b = printing::number(buffer, a, code as u64);
     printing::byte(buffer, b, b';')
 }
 
 // Puts a letter; those that mean something in SVG, and those that are none of ASCII, by their number.
-fn put_letter(buffer: &mut [u8; 4096], at: usize, code: u32) -> usize {
+fn put_letter(buffer: &mut Buffer, at: usize, code: u32) -> usize {
     match code {
         34 | 38 | 39 | 60 | 62 => put_number(buffer, at, code),
         _ => {
@@ -107,7 +108,7 @@ fn put_letter(buffer: &mut [u8; 4096], at: usize, code: u32) -> usize {
 }
 
 // Puts the first letters of a text, at most so many, and two points where there are more.
-pub fn put_text(buffer: &mut [u8; 4096], at: usize, text: &[u8], most: usize) -> usize
+pub fn put_text(buffer: &mut Buffer, at: usize, text: &[u8], most: usize) -> usize
     ensures { Unit {0} }
 {
     let mut next = at;

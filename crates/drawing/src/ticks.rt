@@ -1,4 +1,5 @@
 // The numbers of cells along an axis, in tenths of a pixel.
+use printing::Buffer;
 
 // The step between the numbers that are written: the least of 1, 2, 5, 10, .. 500 that is as many cells as a number takes.
 fn step_of(cells: u64) -> u64 {
@@ -28,7 +29,7 @@ fn room(down: bool) -> u64 {
 }
 
 // Puts a number at a place.
-fn put_number(buffer: &mut [u8; 4096], at: usize, x: u64, y: u64, n: u64) -> usize {
+fn put_number(buffer: &mut Buffer, at: usize, x: u64, y: u64, n: u64) -> usize {
     let a = printing::bytes(buffer, at, b"<text x='");
     let b = printing::number(buffer, a, x);
     let c = printing::bytes(buffer, b, b"' y='");
@@ -48,7 +49,7 @@ fn written(cell: u64, step: u64) -> bool {
 
 // Puts the number of the cell whose middle is there: above the edge, or left of it on an axis that goes down.
 fn put_tick(
-    buffer: &mut [u8; 4096],
+    buffer: &mut Buffer,
     at: usize,
     middle: u64,
     edge: u64,
@@ -70,7 +71,7 @@ fn put_tick(
 
 // Puts the numbers of so many cells of a size, from a start on.
 fn put_axis(
-    buffer: &mut [u8; 4096],
+    buffer: &mut Buffer,
     at: usize,
     cells: u64,
     size: u64,
@@ -93,7 +94,7 @@ fn put_axis(
 }
 
 // The cells of a picture: where the first one's corner is, how many go across and down, and how much of either a cell takes.
-#[derive(Drop)]
+#[derive(Clone, Copy)]
 pub struct Cells {
     pub x: u64,
     pub y: u64,
@@ -104,7 +105,7 @@ pub struct Cells {
 }
 
 // Puts the numbers of the columns above the cells, and those of the lines left of them.
-pub fn put(buffer: &mut [u8; 4096], at: usize, cells: Cells) -> usize
+pub fn put(buffer: &mut Buffer, at: usize, cells: Cells) -> usize
     ensures { Unit {0} }
 {
     let a = printing::bytes(

@@ -1,10 +1,11 @@
 // The head of a picture, and what its titles say of files and numbers.
 use crate::texts::put_text;
 use console::lines::part;
+use printing::Buffer;
 use words::same;
 
 // Puts the head of a picture of so many pixels, and its ground.
-pub fn put_head(buffer: &mut [u8; 4096], at: usize, width: u64, height: u64) -> usize
+pub fn put_head(buffer: &mut Buffer, at: usize, width: u64, height: u64) -> usize
     ensures { Unit {0} }
 {
     let a = printing::bytes(
@@ -38,7 +39,7 @@ fn base(path: &[u8]) -> &[u8] {
 }
 
 // Puts the name of a file, of which at most so many letters.
-pub fn put_file(buffer: &mut [u8; 4096], at: usize, path: &[u8], most: usize) -> usize
+pub fn put_file(buffer: &mut Buffer, at: usize, path: &[u8], most: usize) -> usize
     ensures { Unit {0} }
 {
     if same(path, b"-") {
@@ -48,7 +49,7 @@ pub fn put_file(buffer: &mut [u8; 4096], at: usize, path: &[u8], most: usize) ->
 }
 
 // Puts how many there are of what has this name.
-pub fn put_count(buffer: &mut [u8; 4096], at: usize, n: u64, name: &[u8]) -> usize
+pub fn put_count(buffer: &mut Buffer, at: usize, n: u64, name: &[u8]) -> usize
     ensures { Unit {0} }
 {
     let a = printing::number(buffer, at, n);

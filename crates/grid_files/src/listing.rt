@@ -1,9 +1,11 @@
 // The weights or the ids of a grid in its shape, as a file has its weights.
 use crate::shape::Shape;
+use printing::Buffer;
+use std::rt::HostRuntime;
 use words::status::of_output;
 
 // What stands behind the number of cell i: the separator, a line's end, or a line's end and a blank line.
-fn behind(buffer: &mut [u8; 4096], at: usize, i: usize, shape: Shape) -> usize {
+fn behind(buffer: &mut Buffer, at: usize, i: usize, shape: Shape) -> usize {
     let width = shape.width;
     let height = shape.height;
     if width == 0 {
@@ -33,7 +35,7 @@ fn behind(buffer: &mut [u8; 4096], at: usize, i: usize, shape: Shape) -> usize {
 
 // Puts a number of cell i, its weight or else its id, and what stands behind it.
 fn put_cell(
-    buffer: &mut [u8; 4096],
+    buffer: &mut Buffer,
     at: usize,
     i: usize,
     shape: Shape,
@@ -50,11 +52,17 @@ fn put_cell(
 }
 
 // Prints a number of each cell: its weight, so that they are a grid's file again, or else its id.
-pub fn print(shape: Shape, weighed: bool, weights: &[u64; 65536], ids: &[u32; 65536]) -> u8
+pub fn print(
+    rt: HostRuntime,
+    shape: Shape,
+    weighed: bool,
+    weights: &[u64; 65536],
+    ids: &[u32; 65536],
+) -> u8
     ensures { Unit {0} }
 {
     let cells = shape.cells;
-    let mut buffer = [0u8; 4096];
+    let mut buffer = Buffer::of(rt);
     let mut put: usize = 0;
     for i in 0..65536usize {
         if i < cells {

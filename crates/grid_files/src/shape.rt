@@ -3,7 +3,7 @@ ghost use Rattle.std.specs.Prelude.{◌≤◌};
 
 use whole_files::grid::Grid;
 
-#[derive(Drop)]
+#[derive(Clone, Copy)]
 pub struct Shape {
     pub cells: usize,
     pub width: usize,

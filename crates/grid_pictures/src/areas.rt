@@ -2,9 +2,10 @@
 use crate::plan::{Plan, left, top};
 use grid_files::shape::product;
 use numbered_lines::places::place_of;
+use printing::Buffer;
 
 // A rectangle in tenths of a pixel.
-#[derive(Drop)]
+#[derive(Clone, Copy)]
 pub struct Area {
     pub left: u64,
     pub top: u64,
@@ -13,7 +14,7 @@ pub struct Area {
 }
 
 // A cell's coordinates, and the panel of its layer.
-#[derive(Drop)]
+#[derive(Clone, Copy)]
 pub struct Spot {
     pub x: usize,
     pub y: usize,
@@ -117,7 +118,7 @@ pub(crate) fn area_at(plan: Plan, ids: &[u32; 65536], i: usize) -> Area {
 }
 
 // Puts an area as a rectangle whose start is left open.
-pub(crate) fn put(buffer: &mut [u8; 4096], at: usize, area: Area) -> usize {
+pub(crate) fn put(buffer: &mut Buffer, at: usize, area: Area) -> usize {
     let a = printing::bytes(buffer, at, b"<rect x='");
     let b = printing::number(buffer, a, area.left);
     let c = printing::bytes(buffer, b, b"' y='");

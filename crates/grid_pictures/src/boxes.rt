@@ -3,10 +3,11 @@ use crate::areas::{area_at, begins};
 use crate::plan::Plan;
 use crate::{areas, hues};
 use numbered_lines::places::place_of;
+use printing::Buffer;
 
 // Puts the box that begins at cell i.
 fn put_box(
-    buffer: &mut [u8; 4096],
+    buffer: &mut Buffer,
     at: usize,
     plan: Plan,
     ids: &[u32; 65536],
@@ -21,7 +22,7 @@ fn put_box(
 
 // Puts all boxes.
 pub(crate) fn put(
-    buffer: &mut [u8; 4096],
+    buffer: &mut Buffer,
     at: usize,
     plan: Plan,
     ids: &[u32; 65536],

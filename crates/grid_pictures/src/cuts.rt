@@ -4,6 +4,7 @@ use crate::areas::{Area, area_at, begins, parted, spot_of};
 use crate::hues::layer_of;
 use crate::plan::Plan;
 use grid_files::shape::product;
+use printing::Buffer;
 
 // Whether the paths of two ids part at the cut that is `below` cuts above the last.
 fn parts(a: u32, b: u32, below: u32) -> bool {
@@ -25,7 +26,7 @@ fn cut(ids: &[u32; 65536], i: usize, before: usize, below: u32) -> bool {
 }
 
 // Puts a line from an area's corner, across or down.
-fn put_line(buffer: &mut [u8; 4096], at: usize, area: Area, way: u8, length: u64) -> usize {
+fn put_line(buffer: &mut Buffer, at: usize, area: Area, way: u8, length: u64) -> usize {
     let a = printing::byte(buffer, at, b'M');
     let b = printing::number(buffer, a, area.left);
     let c = printing::byte(buffer, b, b' ');
@@ -36,7 +37,7 @@ fn put_line(buffer: &mut [u8; 4096], at: usize, area: Area, way: u8, length: u64
 
 // Puts the sides of the box that begins at cell i which lie on cuts of this level.
 fn put_sides(
-    buffer: &mut [u8; 4096],
+    buffer: &mut Buffer,
     at: usize,
     plan: Plan,
     ids: &[u32; 65536],
@@ -60,13 +61,7 @@ fn put_sides(
 }
 
 // Puts the lines of the cuts of one level.
-fn put_lines(
-    buffer: &mut [u8; 4096],
-    at: usize,
-    plan: Plan,
-    ids: &[u32; 65536],
-    below: u32,
-) -> usize {
+fn put_lines(buffer: &mut Buffer, at: usize, plan: Plan, ids: &[u32; 65536], below: u32) -> usize {
     let mut next = at;
     for i in 0..65536usize {
         if begins(plan, ids, i) {
@@ -93,7 +88,7 @@ fn unit(plan: Plan, depth: u32) -> u64 {
 
 // Puts the cuts of one level as a path.
 fn put_level(
-    buffer: &mut [u8; 4096],
+    buffer: &mut Buffer,
     at: usize,
     plan: Plan,
     ids: &[u32; 65536],
@@ -108,13 +103,7 @@ fn put_level(
 }
 
 // Puts the cuts of so many levels, the last first, so that earlier ones lie above.
-fn put_levels(
-    buffer: &mut [u8; 4096],
-    at: usize,
-    plan: Plan,
-    depth: u32,
-    ids: &[u32; 65536],
-) -> usize {
+fn put_levels(buffer: &mut Buffer, at: usize, plan: Plan, depth: u32, ids: &[u32; 65536]) -> usize {
     let mut next = at;
     let unit = unit(plan, depth);
     for below in 0..12u32 {
@@ -126,7 +115,7 @@ fn put_levels(
 }
 
 // Puts a rectangle in an area, where it is large enough.
-fn put_inner(buffer: &mut [u8; 4096], at: usize, area: Area) -> usize {
+fn put_inner(buffer: &mut Buffer, at: usize, area: Area) -> usize {
     if area.width < 100 {
         return at;
     }
@@ -157,7 +146,7 @@ fn cut_through(plan: Plan, ids: &[u32; 65536], i: usize) -> bool {
 }
 
 // Puts a rectangle in each box that a cut across z parts from the layer that is shown before.
-fn put_through(buffer: &mut [u8; 4096], at: usize, plan: Plan, ids: &[u32; 65536]) -> usize {
+fn put_through(buffer: &mut Buffer, at: usize, plan: Plan, ids: &[u32; 65536]) -> usize {
     let mut next = at;
     for i in 0..65536usize {
         if begins(plan, ids, i) {
@@ -171,7 +160,7 @@ fn put_through(buffer: &mut [u8; 4096], at: usize, plan: Plan, ids: &[u32; 65536
 
 // Puts all cuts.
 pub(crate) fn put(
-    buffer: &mut [u8; 4096],
+    buffer: &mut Buffer,
     at: usize,
     plan: Plan,
     depth: u32,

@@ -3,12 +3,13 @@ use crate::areas::{behind, over, rest, run, spot_of};
 use crate::plan::Plan;
 use grid_files::shape::product;
 use numbered_lines::places::place_of;
+use printing::Buffer;
 
 // How many hues there are. A place of the table is 0 where its part has none yet.
 const HUES: u8 = 12;
 
 // Puts a hue as a colour.
-pub(crate) fn put(buffer: &mut [u8; 4096], at: usize, hue: u8) -> usize {
+pub(crate) fn put(buffer: &mut Buffer, at: usize, hue: u8) -> usize {
     match hue {
         1 => printing::bytes(buffer, at, b"hsl(212,75%,52%)"),
         2 => printing::bytes(buffer, at, b"hsl(28,90%,52%)"),
@@ -76,7 +77,7 @@ fn around(hues: &[u8; 4096], plan: Plan, ids: &[u32; 65536], k: usize, part: usi
 }
 
 // How many cells a box has across, down and through the layers.
-#[derive(Drop)]
+#[derive(Clone, Copy)]
 pub struct Extent {
     pub across: usize,
     pub down: usize,

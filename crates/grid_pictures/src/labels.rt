@@ -2,6 +2,7 @@
 use crate::areas::{Area, area_at, begins};
 use crate::plan::Plan;
 use numbered_lines::places::place_of;
+use printing::Buffer;
 
 // How much the digits of a number take across.
 fn taken(n: u64) -> u64 {
@@ -17,7 +18,7 @@ fn taken(n: u64) -> u64 {
 }
 
 // Puts where the middle of an area is, as the start of a text.
-fn put_start(buffer: &mut [u8; 4096], at: usize, area: Area) -> usize {
+fn put_start(buffer: &mut Buffer, at: usize, area: Area) -> usize {
     let x = std::num::wrapping_add_u64(area.left, area.width / 2);
     let y = std::num::wrapping_add_u64(area.top, area.height / 2);
     let a = printing::bytes(buffer, at, b"<text x='");
@@ -28,7 +29,7 @@ fn put_start(buffer: &mut [u8; 4096], at: usize, area: Area) -> usize {
 }
 
 // Puts an id, and a weight where that fits too, in the middle of an area; nothing where the id does not fit.
-fn put_label(buffer: &mut [u8; 4096], at: usize, area: Area, id: u64, weight: u64) -> usize {
+fn put_label(buffer: &mut Buffer, at: usize, area: Area, id: u64, weight: u64) -> usize {
     if area.height < 140 {
         return at;
     }
@@ -50,7 +51,7 @@ fn put_label(buffer: &mut [u8; 4096], at: usize, area: Area, id: u64, weight: u6
 
 // Puts the label of the box that begins at cell i.
 fn put_at(
-    buffer: &mut [u8; 4096],
+    buffer: &mut Buffer,
     at: usize,
     plan: Plan,
     ids: &[u32; 65536],
@@ -63,7 +64,7 @@ fn put_at(
 
 // Puts the labels of all boxes.
 fn put_all(
-    buffer: &mut [u8; 4096],
+    buffer: &mut Buffer,
     at: usize,
     plan: Plan,
     ids: &[u32; 65536],
@@ -79,7 +80,7 @@ fn put_all(
 }
 
 pub(crate) fn put(
-    buffer: &mut [u8; 4096],
+    buffer: &mut Buffer,
     at: usize,
     plan: Plan,
     ids: &[u32; 65536],

@@ -18,11 +18,13 @@ mod titles;
 use grid_files::shape::Shape;
 use grid_files::sums::add_to_parts;
 use plan::Plan;
+use printing::Buffer;
+use std::rt::HostRuntime;
 use words::status::of_output;
 
 // Puts what is drawn in tenths of a pixel.
 fn put_drawing(
-    buffer: &mut [u8; 4096],
+    buffer: &mut Buffer,
     at: usize,
     plan: Plan,
     depth: u32,
@@ -43,6 +45,7 @@ fn put_drawing(
 
 // Draws a grid out of a file, halved to a depth, and after the night of a trace where that has a name.
 pub fn draw(
+    rt: HostRuntime,
     path: &[u8],
     trace: &[u8],
     shape: Shape,
@@ -52,7 +55,7 @@ pub fn draw(
 ) -> u8
     ensures { Unit {0} }
 {
-    let mut buffer = [0u8; 4096];
+    let mut buffer = Buffer::of(rt);
     let mut sums = [0u64; 4096];
     add_to_parts(&mut sums, shape.cells, weights, ids);
     let plan = plan::of(shape);

@@ -5,9 +5,10 @@ use crate::plan::{Plan, left, panels, top};
 use drawing::ticks;
 use drawing::ticks::Cells;
 use grid_files::shape::product;
+use printing::Buffer;
 
 // Puts the number of a layer over its panel.
-fn put_layer(buffer: &mut [u8; 4096], at: usize, plan: Plan, p: u64) -> usize {
+fn put_layer(buffer: &mut Buffer, at: usize, plan: Plan, p: u64) -> usize {
     let a = printing::bytes(buffer, at, b"<text font-size='120' font-weight='bold' x='");
     let b = printing::number(buffer, a, left(plan, p, 0));
     let c = printing::bytes(buffer, b, b"' y='");
@@ -18,7 +19,7 @@ fn put_layer(buffer: &mut [u8; 4096], at: usize, plan: Plan, p: u64) -> usize {
 }
 
 // Puts the frame of a panel.
-fn put_frame(buffer: &mut [u8; 4096], at: usize, plan: Plan, p: u64) -> usize {
+fn put_frame(buffer: &mut Buffer, at: usize, plan: Plan, p: u64) -> usize {
     let frame = Area {
         left: left(plan, p, 0),
         top: top(plan, p, 0),
@@ -30,7 +31,7 @@ fn put_frame(buffer: &mut [u8; 4096], at: usize, plan: Plan, p: u64) -> usize {
 }
 
 // Puts what stands at a panel, whose layer has a number where there are several.
-fn put_panel(buffer: &mut [u8; 4096], at: usize, plan: Plan, p: u64, several: bool) -> usize {
+fn put_panel(buffer: &mut Buffer, at: usize, plan: Plan, p: u64, several: bool) -> usize {
     let mut next = at;
     if several {
         next = put_layer(buffer, next, plan, p);
@@ -48,7 +49,7 @@ fn put_panel(buffer: &mut [u8; 4096], at: usize, plan: Plan, p: u64, several: bo
 }
 
 // Puts what stands at all panels.
-pub(crate) fn put(buffer: &mut [u8; 4096], at: usize, plan: Plan) -> usize {
+pub(crate) fn put(buffer: &mut Buffer, at: usize, plan: Plan) -> usize {
     let count = panels(plan);
     let mut next = at;
     for p in 0..40u64 {

@@ -3,7 +3,7 @@ use grid_files::shape::{Shape, product};
 
 // The grid's cells and sides; how much of a cell goes across and down; how many panels are in a row; of how many layers one is drawn; and the
 // sides of the groups of cells whose weights are shown as one.
-#[derive(Drop)]
+#[derive(Clone, Copy)]
 pub struct Plan {
     pub cells: usize,
     pub width: usize,

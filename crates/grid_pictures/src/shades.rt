@@ -4,6 +4,7 @@ use crate::areas::{area_of, behind, over, rest, spot_of};
 use crate::plan::Plan;
 use grid_files::shape::product;
 use numbered_lines::places::place_of;
+use printing::Buffer;
 
 // Whether each cell is shown by itself.
 pub(crate) fn single(plan: Plan) -> bool {
@@ -99,7 +100,7 @@ fn white(weight: u64, most: u64) -> u64 {
 }
 
 // Puts what a square shows: the weight and part of a cell, or a mean.
-fn put_shown(buffer: &mut [u8; 4096], at: usize, single: bool, weight: u64, part: usize) -> usize {
+fn put_shown(buffer: &mut Buffer, at: usize, single: bool, weight: u64, part: usize) -> usize {
     if single {
         let a = printing::bytes(buffer, at, b"weight ");
         let b = printing::number(buffer, a, weight);
@@ -112,7 +113,7 @@ fn put_shown(buffer: &mut [u8; 4096], at: usize, single: bool, weight: u64, part
 
 // Puts the square that begins at cell i.
 fn put_square(
-    buffer: &mut [u8; 4096],
+    buffer: &mut Buffer,
     at: usize,
     plan: Plan,
     weights: &[u64; 65536],
@@ -137,7 +138,7 @@ fn put_square(
 
 // Puts the squares whose darkest shows so much.
 fn put_squares(
-    buffer: &mut [u8; 4096],
+    buffer: &mut Buffer,
     at: usize,
     plan: Plan,
     weights: &[u64; 65536],
@@ -155,7 +156,7 @@ fn put_squares(
 
 // Puts all squares.
 pub(crate) fn put(
-    buffer: &mut [u8; 4096],
+    buffer: &mut Buffer,
     at: usize,
     plan: Plan,
     weights: &[u64; 65536],

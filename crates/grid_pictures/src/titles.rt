@@ -4,9 +4,10 @@ use crate::{plan, shades};
 use drawing::titles::{put_file, put_head};
 use grid_files::shape::{Shape, nodes_of};
 use grid_files::sums;
+use printing::Buffer;
 
 // Puts the names of the files: the grid's, and the trace's where there is one.
-fn put_files(buffer: &mut [u8; 4096], at: usize, path: &[u8], trace: &[u8]) -> usize {
+fn put_files(buffer: &mut Buffer, at: usize, path: &[u8], trace: &[u8]) -> usize {
     if trace.len() == 0 {
         return put_file(buffer, at, path, 40);
     }
@@ -16,13 +17,13 @@ fn put_files(buffer: &mut [u8; 4096], at: usize, path: &[u8], trace: &[u8]) -> u
 }
 
 // Puts a side, and that another follows.
-fn put_side(buffer: &mut [u8; 4096], at: usize, side: usize) -> usize {
+fn put_side(buffer: &mut Buffer, at: usize, side: usize) -> usize {
     let a = printing::bytes(buffer, at, b" by ");
     printing::number(buffer, a, side as u64)
 }
 
 // Puts the sides of a grid.
-fn put_sides(buffer: &mut [u8; 4096], at: usize, shape: Shape) -> usize {
+fn put_sides(buffer: &mut Buffer, at: usize, shape: Shape) -> usize {
     let a = printing::number(buffer, at, shape.width as u64);
     let b = put_side(buffer, a, shape.height);
     if shape.layers == 1 {
@@ -33,7 +34,7 @@ fn put_sides(buffer: &mut [u8; 4096], at: usize, shape: Shape) -> usize {
 
 // Puts the title.
 fn put_title(
-    buffer: &mut [u8; 4096],
+    buffer: &mut Buffer,
     at: usize,
     path: &[u8],
     trace: &[u8],
@@ -55,7 +56,7 @@ fn put_title(
 
 // Puts a part and its weight.
 fn put_part(
-    buffer: &mut [u8; 4096],
+    buffer: &mut Buffer,
     at: usize,
     name: &[u8],
     id: usize,
@@ -68,7 +69,7 @@ fn put_part(
 }
 
 // Puts what all weigh, and the heaviest and the lightest part.
-fn put_weights(buffer: &mut [u8; 4096], at: usize, depth: u32, weights: &[u64; 4096]) -> usize {
+fn put_weights(buffer: &mut Buffer, at: usize, depth: u32, weights: &[u64; 4096]) -> usize {
     let all = sums::sum(weights);
     if all == 0 {
         return printing::bytes(buffer, at, b"all weights are 0");
@@ -92,7 +93,7 @@ fn put_weights(buffer: &mut [u8; 4096], at: usize, depth: u32, weights: &[u64; 4
 }
 
 // Puts whose weight a square shows.
-fn put_square(buffer: &mut [u8; 4096], at: usize, plan: Plan) -> usize {
+fn put_square(buffer: &mut Buffer, at: usize, plan: Plan) -> usize {
     if shades::single(plan) {
         return printing::bytes(buffer, at, b"weight of a cell");
     }
@@ -103,7 +104,7 @@ fn put_square(buffer: &mut [u8; 4096], at: usize, plan: Plan) -> usize {
 }
 
 // Puts what the shades are.
-fn put_shades(buffer: &mut [u8; 4096], at: usize, plan: Plan, weights: &[u64; 65536]) -> usize {
+fn put_shades(buffer: &mut Buffer, at: usize, plan: Plan, weights: &[u64; 65536]) -> usize {
     let a = printing::bytes(
         buffer,
         at,
@@ -116,7 +117,7 @@ fn put_shades(buffer: &mut [u8; 4096], at: usize, plan: Plan, weights: &[u64; 65
 }
 
 // Puts what the panels are, where there are several.
-fn put_panels(buffer: &mut [u8; 4096], at: usize, shape: Shape, plan: Plan) -> usize {
+fn put_panels(buffer: &mut Buffer, at: usize, shape: Shape, plan: Plan) -> usize {
     if shape.layers == 1 {
         return at;
     }
@@ -135,7 +136,7 @@ fn put_panels(buffer: &mut [u8; 4096], at: usize, shape: Shape, plan: Plan) -> u
 
 // Puts the head of the picture and its titles.
 pub(crate) fn put(
-    buffer: &mut [u8; 4096],
+    buffer: &mut Buffer,
     path: &[u8],
     trace: &[u8],
     shape: Shape,

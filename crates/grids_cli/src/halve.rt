@@ -5,11 +5,12 @@ use grid_files::shape::{Shape, nodes_of, side};
 use grid_files::{file, listing};
 use grid_pictures::draw;
 use rules::{Halving2, Halving3};
+use std::rt::HostRuntime;
 use words::status::FAILED;
 use words::{number_of, place, word};
 
 // What a command asks of a halving.
-#[derive(Drop)]
+#[derive(Clone, Copy)]
 pub struct Wish {
     pub edition: u32,
     pub first: u32,
@@ -78,6 +79,7 @@ fn halve_in(shape: Shape, wish: Wish, weights: &[u64], splits: &mut [u32], ids: 
 
 // Shows a halved grid as word 4 wants it: its splits, a picture, or else its ids.
 fn show(
+    rt: HostRuntime,
     line: &[u8],
     shape: Shape,
     depth: u32,
@@ -87,14 +89,14 @@ fn show(
 ) -> u8 {
     let shown = place(line, 4, b"splits\npicture\n");
     match shown {
-        0 => splits::print(splits, nodes_of(depth)),
-        1 => draw(word(line, 2), b"", shape, depth, weights, ids),
-        _ => listing::print(shape, false, weights, ids),
+        0 => splits::print(rt, splits, nodes_of(depth)),
+        1 => draw(rt, word(line, 2), b"", shape, depth, weights, ids),
+        _ => listing::print(rt, shape, false, weights, ids),
     }
 }
 
 // Halves a grid and shows it, or says why it is refused.
-fn halved(line: &[u8], shape: Shape, wish: Wish, weights: &[u64; 65536]) -> u8 {
+fn halved(rt: HostRuntime, line: &[u8], shape: Shape, wish: Wish, weights: &[u64; 65536]) -> u8 {
     let mut splits = [0u32; 4095];
     let mut ids = [0u32; 65536];
     let number = halve_in(shape, wish, weights, &mut splits, &mut ids);
@@ -102,11 +104,11 @@ fn halved(line: &[u8], shape: Shape, wish: Wish, weights: &[u64; 65536]) -> u8 {
         say_refused(word(line, 2), shape, number);
         return FAILED;
     }
-    show(line, shape, wish.depth, weights, &splits, &ids)
+    show(rt, line, shape, wish.depth, weights, &splits, &ids)
 }
 
 // Reads a text's grid, halves it and shows it, or says what is wrong.
-pub(crate) fn of_text(line: &[u8], text: &[u8]) -> u8 {
+pub(crate) fn of_text(rt: HostRuntime, line: &[u8], text: &[u8]) -> u8 {
     let mut weights = [0u64; 65536];
     let grid = file::read(word(line, 2), text, &mut weights);
     let Outcome::Grid(shape) = grid else {
@@ -117,5 +119,5 @@ pub(crate) fn of_text(line: &[u8], text: &[u8]) -> u8 {
         first: asked_or(line, 6, rules::DEFAULT_FIRST),
         depth: number_of(word(line, 3)),
     };
-    halved(line, shape, wish, &weights)
+    halved(rt, line, shape, wish, &weights)
 }

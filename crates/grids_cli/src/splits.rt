@@ -1,8 +1,10 @@
 // The cuts of a halved grid's nodes, a line each.
+use printing::Buffer;
+use std::rt::HostRuntime;
 use words::status::of_output;
 
 // Puts a node and its cut on a line.
-fn put_split(buffer: &mut [u8; 4096], at: usize, node: u64, cut: u32) -> usize {
+fn put_split(buffer: &mut Buffer, at: usize, node: u64, cut: u32) -> usize {
     let a = printing::number(buffer, at, node);
     let b = printing::byte(buffer, a, b',');
     if cut == rules::UNCUT {
@@ -13,8 +15,8 @@ fn put_split(buffer: &mut [u8; 4096], at: usize, node: u64, cut: u32) -> usize {
 }
 
 // Prints the cut of each node.
-pub(crate) fn print(splits: &[u32; 4095], nodes: usize) -> u8 {
-    let mut buffer = [0u8; 4096];
+pub(crate) fn print(rt: HostRuntime, splits: &[u32; 4095], nodes: usize) -> u8 {
+    let mut buffer = Buffer::of(rt);
     let mut put: usize = 0;
     for i in 0..4095usize {
         if i < nodes {

@@ -6,7 +6,7 @@ use words::same;
 
 // Where the coordinates stand: how many there are, and the column of each, counted from 0. Where none were chosen a line has
 // nothing else.
-#[derive(Drop)]
+#[derive(Clone, Copy)]
 pub struct Columns {
     pub chosen: bool,
     pub count: usize,

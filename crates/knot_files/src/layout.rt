@@ -6,7 +6,7 @@ use knot_columns::columns::{Columns, NO_COLUMN, axis_of, column_of, first, place
 use words::word;
 
 // The separator, where the first line that has a field begins, and where the first line of numbers does: behind the header, or there.
-#[derive(Drop)]
+#[derive(Clone, Copy)]
 pub struct Layout {
     pub separator: u8,
     pub head: usize,

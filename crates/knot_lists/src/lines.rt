@@ -4,6 +4,8 @@ use knot_columns::columns::Columns;
 use knot_files::asked;
 use knot_files::layout::Layout;
 use numbered_lines::lines::{put_header, put_points};
+use printing::Buffer;
+use std::rt::HostRuntime;
 use words::status::of_output;
 
 // The points in the order of their indices, those that share one in file order.
@@ -25,6 +27,7 @@ fn sort(indices: &[u64], n: usize, points: &mut [u32], work: &mut [u32]) {
 
 // Prints the list.
 pub fn print(
+    rt: HostRuntime,
     line: &[u8],
     text: &[u8],
     layout: Layout,
@@ -41,7 +44,7 @@ pub fn print(
         let mut work = [0u32; 65536];
         sort(indices, n, &mut points, &mut work);
     }
-    let mut buffer = [0u8; 4096];
+    let mut buffer = Buffer::of(rt);
     let mut at: usize = 0;
     if !asked::plain(line) {
         at = notes::put(

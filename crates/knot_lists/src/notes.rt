@@ -4,17 +4,19 @@ use knot_columns::columns::Columns;
 use knot_files::asked;
 use knot_files::layout::field;
 use knot_rows::ends::points_at;
+use printing::Buffer;
+use std::rt::HostRuntime;
 use words::status::of_output;
 use words::word;
 
 // Puts a space and a field as it stands in the file, so that it names the same number.
-fn put_field(buffer: &mut [u8; 4096], at: usize, text: &[u8], field: Span) -> usize {
+fn put_field(buffer: &mut Buffer, at: usize, text: &[u8], field: Span) -> usize {
     let next = printing::byte(buffer, at, b' ');
     printing::bytes(buffer, next, part(text, field.start, field.end))
 }
 
 // Puts the ends that are given.
-fn put_given(buffer: &mut [u8; 4096], at: usize, line: &[u8], count: usize) -> usize {
+fn put_given(buffer: &mut Buffer, at: usize, line: &[u8], count: usize) -> usize {
     let mut next = at;
     for i in 0..6usize {
         if i < count {
@@ -27,7 +29,7 @@ fn put_given(buffer: &mut [u8; 4096], at: usize, line: &[u8], count: usize) -> u
 
 // Puts the ends of the points, each as the file has it.
 fn put_ends(
-    buffer: &mut [u8; 4096],
+    buffer: &mut Buffer,
     at: usize,
     text: &[u8],
     separator: u8,
@@ -51,7 +53,7 @@ fn put_ends(
 
 // Puts `box` and its ends.
 fn put_box(
-    buffer: &mut [u8; 4096],
+    buffer: &mut Buffer,
     at: usize,
     line: &[u8],
     text: &[u8],
@@ -73,7 +75,7 @@ fn put_box(
 
 // Puts the line that says what the list is.
 pub(crate) fn put(
-    buffer: &mut [u8; 4096],
+    buffer: &mut Buffer,
     line: &[u8],
     text: &[u8],
     separator: u8,
@@ -93,6 +95,7 @@ pub(crate) fn put(
 
 // Prints the box alone.
 pub fn print(
+    rt: HostRuntime,
     line: &[u8],
     text: &[u8],
     separator: u8,
@@ -103,7 +106,7 @@ pub fn print(
 ) -> u8
     ensures { Unit {0} }
 {
-    let mut buffer = [0u8; 4096];
+    let mut buffer = Buffer::of(rt);
     let a = put_box(
         &mut buffer,
         0,

@@ -6,7 +6,7 @@ use knot_files::layout::Layout;
 use words::word;
 
 // The coordinates that go across, up and, where one is asked for, aslant; 3 is none.
-#[derive(Drop)]
+#[derive(Clone, Copy)]
 pub struct Axes {
     pub across: usize,
     pub up: usize,

@@ -2,6 +2,7 @@
 use crate::axes::Axes;
 use crate::labels;
 use crate::spots::{HEIGHT, ROOM, WIDTH};
+use printing::Buffer;
 use words::word;
 
 // Whether an axis of the box has a width.
@@ -26,7 +27,7 @@ fn cells(ends: &[f64; 6], axis: usize, order: u32) -> u64 {
 }
 
 // Puts a border of cells across or up.
-fn put_border(buffer: &mut [u8; 4096], at: usize, place: u64, up: bool) -> usize {
+fn put_border(buffer: &mut Buffer, at: usize, place: u64, up: bool) -> usize {
     if up {
         let a = printing::bytes(buffer, at, b"M300 ");
         let b = printing::number(buffer, a, place);
@@ -49,7 +50,7 @@ fn border(i: u64, cells: u64, up: bool) -> u64 {
 }
 
 // Puts the borders between so many cells of an axis.
-fn put_borders(buffer: &mut [u8; 4096], at: usize, cells: u64, up: bool) -> usize {
+fn put_borders(buffer: &mut Buffer, at: usize, cells: u64, up: bool) -> usize {
     let mut next = at;
     for i in 1..32u64 {
         if i < cells {
@@ -60,7 +61,7 @@ fn put_borders(buffer: &mut [u8; 4096], at: usize, cells: u64, up: bool) -> usiz
 }
 
 // Puts the borders of cells, where no axis goes aslant.
-fn put_cells(buffer: &mut [u8; 4096], at: usize, order: u32, axes: Axes, ends: &[f64; 6]) -> usize {
+fn put_cells(buffer: &mut Buffer, at: usize, order: u32, axes: Axes, ends: &[f64; 6]) -> usize {
     if axes.aslant != 3 {
         return at;
     }
@@ -71,7 +72,7 @@ fn put_cells(buffer: &mut [u8; 4096], at: usize, order: u32, axes: Axes, ends: &
 }
 
 // Puts a label at a place.
-fn put_label(buffer: &mut [u8; 4096], at: usize, place: &[u8], label: &[u8]) -> usize {
+fn put_label(buffer: &mut Buffer, at: usize, place: &[u8], label: &[u8]) -> usize {
     let a = printing::bytes(buffer, at, b"<text ");
     let b = printing::bytes(buffer, a, place);
     let c = printing::byte(buffer, b, b'>');
@@ -81,7 +82,7 @@ fn put_label(buffer: &mut [u8; 4096], at: usize, place: &[u8], label: &[u8]) -> 
 
 // Puts the ends of an axis at the first two places, or its one value at the third where it is flat.
 fn put_ends(
-    buffer: &mut [u8; 4096],
+    buffer: &mut Buffer,
     at: usize,
     places: &[u8],
     labels: &[u8],
@@ -97,7 +98,7 @@ fn put_ends(
 }
 
 // Puts the axis that goes aslant, where one does: its name, and from where to where it goes.
-fn put_aslant(buffer: &mut [u8; 4096], at: usize, labels: &[u8], axes: Axes) -> usize {
+fn put_aslant(buffer: &mut Buffer, at: usize, labels: &[u8], axes: Axes) -> usize {
     if axes.aslant == 3 {
         return at;
     }
@@ -112,7 +113,7 @@ fn put_aslant(buffer: &mut [u8; 4096], at: usize, labels: &[u8], axes: Axes) -> 
 }
 
 // Puts the names of the axes.
-fn put_names(buffer: &mut [u8; 4096], at: usize, labels: &[u8], axes: Axes) -> usize {
+fn put_names(buffer: &mut Buffer, at: usize, labels: &[u8], axes: Axes) -> usize {
     let a = put_label(
         buffer,
         at,
@@ -124,13 +125,7 @@ fn put_names(buffer: &mut [u8; 4096], at: usize, labels: &[u8], axes: Axes) -> u
 }
 
 // Puts what is written across, below the frame, and up, left of it.
-fn put_labels(
-    buffer: &mut [u8; 4096],
-    at: usize,
-    labels: &[u8],
-    axes: Axes,
-    ends: &[f64; 6],
-) -> usize {
+fn put_labels(buffer: &mut Buffer, at: usize, labels: &[u8], axes: Axes, ends: &[f64; 6]) -> usize {
     let a = put_names(buffer, at, labels, axes);
     let b = printing::bytes(buffer, a, b"<g font-size='11'>\n");
     let c = put_ends(
@@ -153,13 +148,7 @@ fn put_labels(
 }
 
 // Puts the ticks of an axis: the first two, or the third where it is flat.
-fn put_ticks(
-    buffer: &mut [u8; 4096],
-    at: usize,
-    ticks: &[u8],
-    ends: &[f64; 6],
-    axis: usize,
-) -> usize {
+fn put_ticks(buffer: &mut Buffer, at: usize, ticks: &[u8], ends: &[f64; 6], axis: usize) -> usize {
     if sloped(ends, axis) {
         return printing::bytes(buffer, at, word(ticks, 0));
     }
@@ -168,7 +157,7 @@ fn put_ticks(
 
 // Puts what is written at the axes, begins the group of what is drawn in tenths of a pixel, and puts the frame.
 pub(crate) fn put(
-    buffer: &mut [u8; 4096],
+    buffer: &mut Buffer,
     at: usize,
     order: u32,
     axes: Axes,

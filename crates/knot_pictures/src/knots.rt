@@ -6,11 +6,14 @@ use knot_columns::columns::Columns;
 use knot_files::layout::Layout;
 use knot_indices::table::Table;
 use knot_indices::{indices, table};
+use printing::Buffer;
+use std::rt::HostRuntime;
 use words::status::{DONE, FAILED};
 
 // Draws n knots that have been divided. What is drawn of them takes the room of their weights, which are added up before: the stack has
 // no room for both.
 fn draw(
+    rt: HostRuntime,
     line: &[u8],
     text: &[u8],
     layout: Layout,
@@ -28,7 +31,7 @@ fn draw(
     let mut table = [0u64; 4096];
     sums::add_all(&mut table, n, indices, weights, parts, order);
     spots::fill(weights, n, values, ends, axes, indices, parts, order);
-    let mut labels = [0u8; 4096];
+    let mut labels = Buffer::of(rt);
     labels::fill(
         &mut labels,
         line,
@@ -41,11 +44,22 @@ fn draw(
         starts,
         ends,
     );
-    picture::print(line, columns.count, axes, n, ends, &labels, weights, &table)
+    picture::print(
+        rt,
+        line,
+        columns.count,
+        axes,
+        n,
+        ends,
+        &labels.bytes,
+        weights,
+        &table,
+    )
 }
 
 // Divides n knots and goes on with them, or says why that is refused.
 fn divide(
+    rt: HostRuntime,
     line: &[u8],
     text: &[u8],
     layout: Layout,
@@ -75,6 +89,7 @@ fn divide(
         return FAILED;
     }
     draw(
+        rt,
         line,
         text,
         layout,
@@ -93,6 +108,7 @@ fn divide(
 
 // Indexes n knots and goes on with them, or says why they are refused.
 fn index(
+    rt: HostRuntime,
     line: &[u8],
     text: &[u8],
     layout: Layout,
@@ -122,26 +138,26 @@ fn index(
         return status;
     }
     divide(
-        line, text, layout, columns, axes, n, values, starts, &ends, &indices,
+        rt, line, text, layout, columns, axes, n, values, starts, &ends, &indices,
     )
 }
 
 // Reads the knots and goes on with them, or says what is wrong.
-fn of_table(line: &[u8], text: &[u8], layout: Layout, columns: Columns) -> u8 {
+fn of_table(rt: HostRuntime, line: &[u8], text: &[u8], layout: Layout, columns: Columns) -> u8 {
     let mut values = [0.0f64; 196608];
     let mut starts = [0u32; 65536];
     let n = table::read(line, text, layout, columns, &mut values, &mut starts);
     if n == 0 {
         return FAILED;
     }
-    index(line, text, layout, columns, n, &values, &starts)
+    index(rt, line, text, layout, columns, n, &values, &starts)
 }
 
 // The knots of a text.
-pub(crate) fn of_text(line: &[u8], text: &[u8]) -> u8 {
+pub(crate) fn of_text(rt: HostRuntime, line: &[u8], text: &[u8]) -> u8 {
     let table = table::table_of(line, text);
     let Table::Of(layout, columns) = table else {
         return FAILED;
     };
-    of_table(line, text, layout, columns)
+    of_table(rt, line, text, layout, columns)
 }

@@ -7,6 +7,7 @@ use knot_columns::columns::{Columns, column_of};
 use knot_files::asked;
 use knot_files::layout::{Layout, field};
 use knot_rows::ends::points_at;
+use printing::Buffer;
 use words::word;
 
 // The words of the names.
@@ -17,7 +18,7 @@ pub(crate) const UP: usize = 7;
 pub(crate) const ASLANT: usize = 8;
 
 // Puts an end as it is written, or rounded where that is long.
-fn put_short(labels: &mut [u8; 4096], at: usize, written: &[u8], value: f64) -> usize {
+fn put_short(labels: &mut Buffer, at: usize, written: &[u8], value: f64) -> usize {
     if 12 < written.len() {
         return printing::value(labels, at, value);
     }
@@ -26,7 +27,7 @@ fn put_short(labels: &mut [u8; 4096], at: usize, written: &[u8], value: f64) -> 
 
 // Puts end `i` of the box, as the command or the file has it.
 fn put_end(
-    labels: &mut [u8; 4096],
+    labels: &mut Buffer,
     at: usize,
     line: &[u8],
     text: &[u8],
@@ -46,7 +47,7 @@ fn put_end(
 
 // Puts the ends of the box, those of a third axis that is not there too.
 fn put_ends(
-    labels: &mut [u8; 4096],
+    labels: &mut Buffer,
     line: &[u8],
     text: &[u8],
     separator: u8,
@@ -66,13 +67,7 @@ fn put_ends(
 }
 
 // Puts the name of a column: that of the header, or its number.
-fn put_name(
-    labels: &mut [u8; 4096],
-    at: usize,
-    text: &[u8],
-    layout: Layout,
-    column: usize,
-) -> usize {
+fn put_name(labels: &mut Buffer, at: usize, text: &[u8], layout: Layout, column: usize) -> usize {
     if layout.head != layout.first {
         let found = field_of(text, layout.head, layout.separator, column);
         let name = part(text, found.start, found.end);
@@ -86,7 +81,7 @@ fn put_name(
 
 // Puts down what is written at the axes of n knots, in a line of zeros.
 pub(crate) fn fill(
-    labels: &mut [u8; 4096],
+    labels: &mut Buffer,
     line: &[u8],
     text: &[u8],
     layout: Layout,

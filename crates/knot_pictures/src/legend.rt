@@ -2,17 +2,18 @@
 use crate::asked;
 use divisions::sums;
 use drawing::colours::put_colour;
+use printing::Buffer;
 
 // How many lines there is room for.
 const LINES: u64 = 40;
 
 // Where line `i` stands.
-fn put_height(buffer: &mut [u8; 4096], at: usize, i: u64, more: u64) -> usize {
+fn put_height(buffer: &mut Buffer, at: usize, i: u64, more: u64) -> usize {
     printing::number(buffer, at, i % 64 * 18 + more % 1024)
 }
 
 // Puts the disc of a part.
-fn put_disc(buffer: &mut [u8; 4096], at: usize, part: u64) -> usize {
+fn put_disc(buffer: &mut Buffer, at: usize, part: u64) -> usize {
     let a = printing::bytes(buffer, at, b"<circle cx='1051' r='5' cy='");
     let b = put_height(buffer, a, part, 115);
     let c = printing::bytes(buffer, b, b"' fill='");
@@ -21,7 +22,7 @@ fn put_disc(buffer: &mut [u8; 4096], at: usize, part: u64) -> usize {
 }
 
 // Begins the text of line `i`.
-fn put_start(buffer: &mut [u8; 4096], at: usize, i: u64) -> usize {
+fn put_start(buffer: &mut Buffer, at: usize, i: u64) -> usize {
     let a = printing::bytes(buffer, at, b"<text x='1061' y='");
     let b = put_height(buffer, a, i, 119);
     printing::bytes(buffer, b, b"'>")
@@ -29,7 +30,7 @@ fn put_start(buffer: &mut [u8; 4096], at: usize, i: u64) -> usize {
 
 // Puts the line of a part.
 fn put_part(
-    buffer: &mut [u8; 4096],
+    buffer: &mut Buffer,
     at: usize,
     part: u64,
     weighed: bool,
@@ -58,7 +59,7 @@ fn shown(count: u64) -> u64 {
 
 // Puts the lines of the parts that have one.
 fn put_parts(
-    buffer: &mut [u8; 4096],
+    buffer: &mut Buffer,
     at: usize,
     count: u64,
     weighed: bool,
@@ -74,7 +75,7 @@ fn put_parts(
 }
 
 // Puts how many parts have no line, where there are such.
-fn put_others(buffer: &mut [u8; 4096], at: usize, others: u64) -> usize {
+fn put_others(buffer: &mut Buffer, at: usize, others: u64) -> usize {
     if others == 0 {
         return at;
     }
@@ -85,7 +86,7 @@ fn put_others(buffer: &mut [u8; 4096], at: usize, others: u64) -> usize {
 }
 
 // Puts what the lines say, above them.
-fn put_head(buffer: &mut [u8; 4096], at: usize, weighed: bool) -> usize {
+fn put_head(buffer: &mut Buffer, at: usize, weighed: bool) -> usize {
     let next = printing::bytes(
         buffer,
         at,
@@ -98,7 +99,7 @@ fn put_head(buffer: &mut [u8; 4096], at: usize, weighed: bool) -> usize {
 }
 
 // Puts the parts, where they are asked for.
-pub(crate) fn put(buffer: &mut [u8; 4096], at: usize, line: &[u8], table: &[u64; 4096]) -> usize {
+pub(crate) fn put(buffer: &mut Buffer, at: usize, line: &[u8], table: &[u64; 4096]) -> usize {
     if !asked::parts(line) {
         return at;
     }

@@ -20,26 +20,27 @@ mod weighed;
 
 use console::files;
 use console::files::Size;
+use std::rt::HostRuntime;
 use words::status::FAILED;
 use words::word;
 
 // Carries out a command on a file.
-fn carry_out(line: &[u8], bytes: &mut [u8; 4194304]) -> u8 {
-    let read = files::read(word(line, 2), bytes);
+fn carry_out(rt: HostRuntime, line: &[u8], bytes: &mut [u8; 4194304]) -> u8 {
+    let read = files::read(rt, word(line, 2), bytes);
     let Size::Bytes(size) = read else {
         return FAILED;
     };
-    knots::of_text(line, files::text(bytes, size))
+    knots::of_text(rt, line, files::text(bytes, size))
 }
 
-fn carry_out_in(line: &[u8; 4096], bytes: &mut [u8; 4194304]) {
-    let status = carry_out(line, bytes);
+fn carry_out_in(rt: HostRuntime, line: &[u8; 4096], bytes: &mut [u8; 4194304]) {
+    let status = carry_out(rt, line, bytes);
     words::status::report(line, status);
 }
 
-fn main() {
+fn main(rt: HostRuntime) {
     let mut line = [0u8; 4096];
-    words::arguments(&mut line);
+    words::arguments(rt, &mut line);
     let mut bytes = [0u8; 4194304];
-    carry_out_in(&line, &mut bytes);
+    carry_out_in(rt, &line, &mut bytes);
 }

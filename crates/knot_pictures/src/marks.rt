@@ -4,6 +4,7 @@ use crate::paths;
 use crate::spots::{HEIGHT, ROOM, WIDTH, x_of, y_of};
 use drawing::ends;
 use drawing::ends::Place;
+use printing::Buffer;
 
 // How wide a dot is.
 fn dot(n: usize) -> u64 {
@@ -31,14 +32,14 @@ fn thin(n: usize) -> u64 {
 }
 
 // Puts a number as the width of strokes, and ends the element's start.
-fn put_width(buffer: &mut [u8; 4096], at: usize, width: u64) -> usize {
+fn put_width(buffer: &mut Buffer, at: usize, width: u64) -> usize {
     let a = printing::bytes(buffer, at, b" stroke-width='");
     let b = printing::number(buffer, a, width);
     printing::byte(buffer, b, b'\'')
 }
 
 // Puts the line through n knots.
-fn put_line(buffer: &mut [u8; 4096], at: usize, n: usize, knots: &[u64; 65536]) -> usize {
+fn put_line(buffer: &mut Buffer, at: usize, n: usize, knots: &[u64; 65536]) -> usize {
     let a = printing::bytes(buffer, at, b"<path stroke='#888'");
     let b = put_width(buffer, a, thin(n));
     let c = printing::bytes(buffer, b, b" d='");
@@ -47,7 +48,7 @@ fn put_line(buffer: &mut [u8; 4096], at: usize, n: usize, knots: &[u64; 65536]) 
 }
 
 // Puts the dots of the knots that have their cell alone.
-fn put_alone(buffer: &mut [u8; 4096], at: usize, n: usize, knots: &[u64; 65536]) -> usize {
+fn put_alone(buffer: &mut Buffer, at: usize, n: usize, knots: &[u64; 65536]) -> usize {
     let a = printing::bytes(buffer, at, b"<g");
     let b = put_width(buffer, a, dot(n));
     let c = printing::bytes(buffer, b, b">\n");
@@ -56,7 +57,7 @@ fn put_alone(buffer: &mut [u8; 4096], at: usize, n: usize, knots: &[u64; 65536])
 }
 
 // Puts all paths of knots that share their cell once more, as discs of this width and colour.
-fn put_discs(buffer: &mut [u8; 4096], at: usize, width: u64, colour: &[u8]) -> usize {
+fn put_discs(buffer: &mut Buffer, at: usize, width: u64, colour: &[u8]) -> usize {
     let a = printing::bytes(buffer, at, b"<use href='#shared' stroke='");
     let b = printing::bytes(buffer, a, colour);
     let c = printing::byte(buffer, b, b'\'');
@@ -65,7 +66,7 @@ fn put_discs(buffer: &mut [u8; 4096], at: usize, width: u64, colour: &[u8]) -> u
 }
 
 // Puts a ring around each of the knots that share their cell.
-fn put_rings(buffer: &mut [u8; 4096], at: usize, n: usize, knots: &[u64; 65536]) -> usize {
+fn put_rings(buffer: &mut Buffer, at: usize, n: usize, knots: &[u64; 65536]) -> usize {
     let ring = dot(n) % 256 + 64;
     let a = printing::bytes(buffer, at, b"<defs><g id='shared'>\n");
     let b = paths::put_dots(buffer, a, n, knots, true);
@@ -75,7 +76,7 @@ fn put_rings(buffer: &mut [u8; 4096], at: usize, n: usize, knots: &[u64; 65536])
 }
 
 // Puts the dots of the knots that share their cell.
-fn put_shared(buffer: &mut [u8; 4096], at: usize, n: usize, knots: &[u64; 65536]) -> usize {
+fn put_shared(buffer: &mut Buffer, at: usize, n: usize, knots: &[u64; 65536]) -> usize {
     let a = printing::bytes(buffer, at, b"<g");
     let b = put_width(buffer, a, dot(n));
     let c = printing::bytes(buffer, b, b">\n");
@@ -92,7 +93,7 @@ fn place_of(knot: u64) -> Place {
 }
 
 // Puts marks on the first and the last of n knots.
-fn put_ends(buffer: &mut [u8; 4096], at: usize, n: usize, first: u64, last: u64) -> usize {
+fn put_ends(buffer: &mut Buffer, at: usize, n: usize, first: u64, last: u64) -> usize {
     let middle = Place {
         x: ROOM + WIDTH / 2,
         y: ROOM + HEIGHT / 2,
@@ -101,7 +102,7 @@ fn put_ends(buffer: &mut [u8; 4096], at: usize, n: usize, first: u64, last: u64)
 }
 
 // Puts all marks, dots above the rings, so that no ring hides a knot near it.
-pub(crate) fn put(buffer: &mut [u8; 4096], at: usize, n: usize, knots: &[u64; 65536]) -> usize {
+pub(crate) fn put(buffer: &mut Buffer, at: usize, n: usize, knots: &[u64; 65536]) -> usize {
     let a = put_line(buffer, at, n, knots);
     let b = put_rings(buffer, a, n, knots);
     let c = put_alone(buffer, b, n, knots);

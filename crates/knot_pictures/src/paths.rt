@@ -1,12 +1,13 @@
 // The knots as paths: one through all of them, and for each part one of strokes without length, whose round ends are the dots.
 use crate::spots::{ALONE, mark_of, part_of, x_of, y_of};
 use drawing::colours::put_colour;
+use printing::Buffer;
 
 // A part that no knot has.
 const NO_PART: u64 = 1024;
 
 // Puts a knot's spot.
-pub(crate) fn put_spot(buffer: &mut [u8; 4096], at: usize, knot: u64) -> usize {
+pub(crate) fn put_spot(buffer: &mut Buffer, at: usize, knot: u64) -> usize {
     let a = printing::number(buffer, at, x_of(knot));
     let b = printing::byte(buffer, a, b' ');
     printing::number(buffer, b, y_of(knot))
@@ -24,12 +25,7 @@ fn before(i: usize) -> u8 {
 }
 
 // Puts the spots of n knots as one path.
-pub(crate) fn put_line(
-    buffer: &mut [u8; 4096],
-    at: usize,
-    n: usize,
-    knots: &[u64; 65536],
-) -> usize {
+pub(crate) fn put_line(buffer: &mut Buffer, at: usize, n: usize, knots: &[u64; 65536]) -> usize {
     let mut next = at;
     for i in 0..65536usize {
         if i < n {
@@ -41,7 +37,7 @@ pub(crate) fn put_line(
 }
 
 // Ends the path of a part, where one is open.
-fn put_end(buffer: &mut [u8; 4096], at: usize, part: u64) -> usize {
+fn put_end(buffer: &mut Buffer, at: usize, part: u64) -> usize {
     if part == NO_PART {
         return at;
     }
@@ -49,7 +45,7 @@ fn put_end(buffer: &mut [u8; 4096], at: usize, part: u64) -> usize {
 }
 
 // Begins the path of a part: with its name, or with its colour.
-fn put_begin(buffer: &mut [u8; 4096], at: usize, part: u64, named: bool) -> usize {
+fn put_begin(buffer: &mut Buffer, at: usize, part: u64, named: bool) -> usize {
     if named {
         let a = printing::bytes(buffer, at, b"<path id='p");
         let b = printing::number(buffer, a, part);
@@ -61,7 +57,7 @@ fn put_begin(buffer: &mut [u8; 4096], at: usize, part: u64, named: bool) -> usiz
 }
 
 // Puts a knot as a dot, in a path of its own where its part is another than that of the path that is open.
-fn put_dot(buffer: &mut [u8; 4096], at: usize, knot: u64, open: u64, named: bool) -> usize {
+fn put_dot(buffer: &mut Buffer, at: usize, knot: u64, open: u64, named: bool) -> usize {
     let mut next = at;
     if part_of(knot) != open {
         next = put_end(buffer, next, open);
@@ -79,7 +75,7 @@ fn shares(knot: u64) -> bool {
 
 // Puts the dots of those of n knots that share their cell, in paths with names, or of the others, in paths with colours.
 pub(crate) fn put_dots(
-    buffer: &mut [u8; 4096],
+    buffer: &mut Buffer,
     at: usize,
     n: usize,
     knots: &[u64; 65536],
@@ -99,7 +95,7 @@ pub(crate) fn put_dots(
 }
 
 // Puts the path of a part by its name, in its colour.
-fn put_use(buffer: &mut [u8; 4096], at: usize, part: u64) -> usize {
+fn put_use(buffer: &mut Buffer, at: usize, part: u64) -> usize {
     let a = printing::bytes(buffer, at, b"<use href='#p");
     let b = printing::number(buffer, a, part);
     let c = printing::bytes(buffer, b, b"' stroke='");
@@ -108,12 +104,7 @@ fn put_use(buffer: &mut [u8; 4096], at: usize, part: u64) -> usize {
 }
 
 // Puts the paths with names, each in the colour of its part.
-pub(crate) fn put_uses(
-    buffer: &mut [u8; 4096],
-    at: usize,
-    n: usize,
-    knots: &[u64; 65536],
-) -> usize {
+pub(crate) fn put_uses(buffer: &mut Buffer, at: usize, n: usize, knots: &[u64; 65536]) -> usize {
     let mut next = at;
     let mut last = NO_PART;
     for i in 0..65536usize {

@@ -2,6 +2,8 @@
 use crate::axes::Axes;
 use crate::{asked, frame, legend, marks, titles};
 use drawing::titles::put_head;
+use printing::Buffer;
+use std::rt::HostRuntime;
 use words::status::of_output;
 
 // How wide the picture is.
@@ -14,6 +16,7 @@ fn width(line: &[u8]) -> u64 {
 
 // Prints the picture of n knots with so many coordinates.
 pub(crate) fn print(
+    rt: HostRuntime,
     line: &[u8],
     count: usize,
     axes: Axes,
@@ -23,7 +26,7 @@ pub(crate) fn print(
     knots: &[u64; 65536],
     table: &[u64; 4096],
 ) -> u8 {
-    let mut buffer = [0u8; 4096];
+    let mut buffer = Buffer::of(rt);
     let order = knot_files::asked::order(line);
     let a = put_head(&mut buffer, 0, width(line), 900);
     let b = titles::put(&mut buffer, a, line, n, count, knots);

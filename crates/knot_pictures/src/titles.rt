@@ -1,9 +1,10 @@
 // What the picture is, above it: the file, how many knots, dimension, order, parts, and how many share a cell.
 use crate::{asked, spots};
 use drawing::titles::{put_count, put_file};
+use printing::Buffer;
 
 // Puts how many parts there are, where they are asked for.
-fn put_parts(buffer: &mut [u8; 4096], at: usize, line: &[u8]) -> usize {
+fn put_parts(buffer: &mut Buffer, at: usize, line: &[u8]) -> usize {
     if !asked::parts(line) {
         return at;
     }
@@ -12,7 +13,7 @@ fn put_parts(buffer: &mut [u8; 4096], at: usize, line: &[u8]) -> usize {
 }
 
 // Puts the title of n knots with so many coordinates.
-fn put_title(buffer: &mut [u8; 4096], at: usize, line: &[u8], n: usize, count: usize) -> usize {
+fn put_title(buffer: &mut Buffer, at: usize, line: &[u8], n: usize, count: usize) -> usize {
     let a = printing::bytes(
         buffer,
         at,
@@ -30,7 +31,7 @@ fn put_title(buffer: &mut [u8; 4096], at: usize, line: &[u8], n: usize, count: u
 }
 
 // Puts how many knots share how many cells.
-fn put_shared(buffer: &mut [u8; 4096], at: usize, knots: u64, cells: u64) -> usize {
+fn put_shared(buffer: &mut Buffer, at: usize, knots: u64, cells: u64) -> usize {
     if knots == 0 {
         return printing::bytes(buffer, at, b"no two share a cell");
     }
@@ -42,7 +43,7 @@ fn put_shared(buffer: &mut [u8; 4096], at: usize, knots: u64, cells: u64) -> usi
 
 // Puts the title and, below it, what is marked.
 pub(crate) fn put(
-    buffer: &mut [u8; 4096],
+    buffer: &mut Buffer,
     at: usize,
     line: &[u8],
     n: usize,

@@ -17,7 +17,7 @@ pub fn value_of(values: &[f64; 196608], axis: usize, point: usize) -> f64
 }
 
 // Two places among some values.
-#[derive(Drop)]
+#[derive(Clone, Copy)]
 struct Pair {
     low: usize,
     high: usize,

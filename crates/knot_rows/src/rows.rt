@@ -79,7 +79,7 @@ fn read_field(
 }
 
 // A line that was read: how many fields it has, and the place after it.
-#[derive(Drop)]
+#[derive(Clone, Copy)]
 pub struct Line {
     pub fields: usize,
     pub next: usize,

@@ -5,10 +5,12 @@ use knot_files::layout::Layout;
 use knot_indices::table::Table;
 use knot_indices::{indices, table};
 use knot_lists::{lines, notes};
+use std::rt::HostRuntime;
 use words::status::{DONE, FAILED};
 
 // Indexes n points and prints them, or says why they are refused.
 fn index(
+    rt: HostRuntime,
     line: &[u8],
     text: &[u8],
     layout: Layout,
@@ -33,11 +35,12 @@ fn index(
     if status != DONE {
         return status;
     }
-    lines::print(line, text, layout, columns, n, values, starts, &indices)
+    lines::print(rt, line, text, layout, columns, n, values, starts, &indices)
 }
 
 // What is wanted of n points: their box alone, or their indices.
 fn of_points(
+    rt: HostRuntime,
     line: &[u8],
     text: &[u8],
     layout: Layout,
@@ -47,27 +50,27 @@ fn of_points(
     starts: &[u32; 65536],
 ) -> u8 {
     if asked::extent(line) {
-        return notes::print(line, text, layout.separator, columns, n, values, starts);
+        return notes::print(rt, line, text, layout.separator, columns, n, values, starts);
     }
-    index(line, text, layout, columns, n, values, starts)
+    index(rt, line, text, layout, columns, n, values, starts)
 }
 
 // Reads the knots and goes on with them, or says what is wrong.
-fn of_table(line: &[u8], text: &[u8], layout: Layout, columns: Columns) -> u8 {
+fn of_table(rt: HostRuntime, line: &[u8], text: &[u8], layout: Layout, columns: Columns) -> u8 {
     let mut values = [0.0f64; 196608];
     let mut starts = [0u32; 65536];
     let n = table::read(line, text, layout, columns, &mut values, &mut starts);
     if n == 0 {
         return FAILED;
     }
-    of_points(line, text, layout, columns, n, &values, &starts)
+    of_points(rt, line, text, layout, columns, n, &values, &starts)
 }
 
 // The knots of a text.
-pub(crate) fn of_text(line: &[u8], text: &[u8]) -> u8 {
+pub(crate) fn of_text(rt: HostRuntime, line: &[u8], text: &[u8]) -> u8 {
     let table = table::table_of(line, text);
     let Table::Of(layout, columns) = table else {
         return FAILED;
     };
-    of_table(line, text, layout, columns)
+    of_table(rt, line, text, layout, columns)
 }

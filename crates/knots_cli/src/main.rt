@@ -10,25 +10,26 @@ mod index;
 use console::files;
 use console::files::Size;
 use knot_files::asked;
+use std::rt::HostRuntime;
 use words::status::FAILED;
 
 // Carries out a command on a file.
-fn carry_out(line: &[u8], bytes: &mut [u8; 4194304]) -> u8 {
-    let read = files::read(asked::path(line), bytes);
+fn carry_out(rt: HostRuntime, line: &[u8], bytes: &mut [u8; 4194304]) -> u8 {
+    let read = files::read(rt, asked::path(line), bytes);
     let Size::Bytes(size) = read else {
         return FAILED;
     };
-    index::of_text(line, files::text(bytes, size))
+    index::of_text(rt, line, files::text(bytes, size))
 }
 
-fn carry_out_in(line: &[u8; 4096], bytes: &mut [u8; 4194304]) {
-    let status = carry_out(line, bytes);
+fn carry_out_in(rt: HostRuntime, line: &[u8; 4096], bytes: &mut [u8; 4194304]) {
+    let status = carry_out(rt, line, bytes);
     words::status::report(line, status);
 }
 
-fn main() {
+fn main(rt: HostRuntime) {
     let mut line = [0u8; 4096];
-    words::arguments(&mut line);
+    words::arguments(rt, &mut line);
     let mut bytes = [0u8; 4194304];
-    carry_out_in(&line, &mut bytes);
+    carry_out_in(rt, &line, &mut bytes);
 }

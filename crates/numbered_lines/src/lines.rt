@@ -2,22 +2,17 @@
 use crate::places::place_of;
 use console::lines::{line_end, part};
 use knot_files::layout::Layout;
+use printing::Buffer;
 
 // Puts a line of the text behind what stands before it.
-fn put_line(buffer: &mut [u8; 4096], at: usize, separator: u8, text: &[u8], start: usize) -> usize {
+fn put_line(buffer: &mut Buffer, at: usize, separator: u8, text: &[u8], start: usize) -> usize {
     let a = printing::byte(buffer, at, separator);
     let b = printing::bytes(buffer, a, part(text, start, line_end(text, start)));
     printing::byte(buffer, b, b'\n')
 }
 
 // Puts the header behind the name of the column that comes before it, where there is one.
-pub fn put_header(
-    buffer: &mut [u8; 4096],
-    at: usize,
-    name: &[u8],
-    text: &[u8],
-    layout: Layout,
-) -> usize
+pub fn put_header(buffer: &mut Buffer, at: usize, name: &[u8], text: &[u8], layout: Layout) -> usize
     ensures { Unit {0} }
 {
     if layout.head == layout.first {
@@ -29,7 +24,7 @@ pub fn put_header(
 
 // Puts a point's line behind its number.
 fn put_point(
-    buffer: &mut [u8; 4096],
+    buffer: &mut Buffer,
     at: usize,
     text: &[u8],
     separator: u8,
@@ -51,7 +46,7 @@ fn point_of(i: usize, sorted: bool, points: &[u32; 65536]) -> usize {
 
 // Puts the lines of n points, each behind its number.
 pub fn put_points(
-    buffer: &mut [u8; 4096],
+    buffer: &mut Buffer,
     at: usize,
     text: &[u8],
     separator: u8,

@@ -4,11 +4,13 @@ use divisions::division;
 use knot_files::layout::Layout;
 use numbered_lines::lines::{put_header, put_points};
 use numbered_lines::places::widen;
+use printing::Buffer;
+use std::rt::HostRuntime;
 use whole_files::noted;
 use words::status::{FAILED, of_output};
 
 // Puts the line that says what is divided, where the list says what it is.
-fn put_note(buffer: &mut [u8; 4096], count: u32, text: &[u8], known: bool) -> usize {
+fn put_note(buffer: &mut Buffer, count: u32, text: &[u8], known: bool) -> usize {
     if !known {
         return 0;
     }
@@ -21,6 +23,7 @@ fn put_note(buffer: &mut [u8; 4096], count: u32, text: &[u8], known: bool) -> us
 
 // Prints each point's line behind its part.
 fn print(
+    rt: HostRuntime,
     line: &[u8],
     text: &[u8],
     layout: Layout,
@@ -30,7 +33,7 @@ fn print(
     numbers: &[u64; 65536],
     order: &[u32; 65536],
 ) -> u8 {
-    let mut buffer = [0u8; 4096];
+    let mut buffer = Buffer::of(rt);
     let a = put_note(&mut buffer, asked::count(line), text, known);
     let b = put_header(&mut buffer, a, b"part", text, layout);
     let c = put_points(
@@ -49,6 +52,7 @@ fn print(
 
 // Prints what is asked for of parts that were found.
 fn show(
+    rt: HostRuntime,
     line: &[u8],
     text: &[u8],
     layout: Layout,
@@ -61,15 +65,16 @@ fn show(
     order: &[u32; 65536],
 ) -> u8 {
     if asked::summary(line) {
-        return summary::print(asked::count(line), n, indices, weights, parts, order);
+        return summary::print(rt, asked::count(line), n, indices, weights, parts, order);
     }
     let mut numbers = [0u64; 65536];
     widen(parts, &mut numbers);
-    print(line, text, layout, known, n, starts, &numbers, order)
+    print(rt, line, text, layout, known, n, starts, &numbers, order)
 }
 
 // Divides n points, or says why that is refused.
 pub(crate) fn of_points(
+    rt: HostRuntime,
     line: &[u8],
     text: &[u8],
     layout: Layout,
@@ -93,6 +98,6 @@ pub(crate) fn of_points(
         return FAILED;
     }
     show(
-        line, text, layout, known, n, indices, weights, starts, &parts, &order,
+        rt, line, text, layout, known, n, indices, weights, starts, &parts, &order,
     )
 }

@@ -12,8 +12,9 @@ use std::rt::HostRuntime;
 use words::status::say_system;
 
 // The bytes that are still to be written, and the handle that writes them.
+#[derive(Drop)]
 pub struct Buffer {
-    bytes: [u8; 4096],
+    pub bytes: [u8; 4096],
     rt: HostRuntime,
 }
 

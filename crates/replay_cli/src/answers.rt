@@ -3,6 +3,8 @@ use console::faults::{begin, write, write_number};
 use knot_files::layout::Layout;
 use numbered_lines::lines::{put_header, put_points};
 use numbered_lines::places::widen;
+use printing::Buffer;
+use std::rt::HostRuntime;
 use words::status::of_output;
 
 // How many of the first n events have this answer.
@@ -35,13 +37,14 @@ pub(crate) fn say_refused(path: &[u8], n: usize, answers: &[u32; 65536]) {
 
 // Prints the lines of n events behind numbers, in the order of the file.
 fn print_lines(
+    rt: HostRuntime,
     text: &[u8],
     layout: Layout,
     n: usize,
     starts: &[u32; 65536],
     numbers: &[u64; 65536],
 ) -> u8 {
-    let mut buffer = [0u8; 4096];
+    let mut buffer = Buffer::of(rt);
     let a = put_header(&mut buffer, 0, b"answer", text, layout);
     let in_another_order = false;
     let b = put_points(
@@ -60,6 +63,7 @@ fn print_lines(
 
 // Prints each event's line behind its answer.
 pub(crate) fn print(
+    rt: HostRuntime,
     text: &[u8],
     layout: Layout,
     n: usize,
@@ -68,5 +72,5 @@ pub(crate) fn print(
 ) -> u8 {
     let mut numbers = [0u64; 65536];
     widen(answers, &mut numbers);
-    print_lines(text, layout, n, starts, &numbers)
+    print_lines(rt, text, layout, n, starts, &numbers)
 }

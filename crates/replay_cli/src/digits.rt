@@ -1,5 +1,6 @@
 // Whole numbers of up to 48 digits, one a place, the lowest first: the sides of the bounds have up to 43.
 use grid_files::shape::product;
+use printing::Buffer;
 
 // The digits of n.
 fn set(digits: &mut [u64; 48], n: u64) {
@@ -55,7 +56,7 @@ pub(crate) fn at_most(a: &[u64; 48], b: &[u64; 48]) -> bool {
 }
 
 // Puts a number without noughts in front.
-pub(crate) fn put(buffer: &mut [u8; 4096], at: usize, digits: &[u64; 48]) -> usize {
+pub(crate) fn put(buffer: &mut Buffer, at: usize, digits: &[u64; 48]) -> usize {
     let mut next = at;
     let mut begun = false;
     for i in 0..48usize {

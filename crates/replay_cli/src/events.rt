@@ -10,7 +10,7 @@ use whole_files::row::{Limit, Row};
 
 // How many fields a line has, of which the last is the amount, and how far the coordinates go that stand before it. A cell's number is one
 // coordinate, which goes as far as there are cells.
-#[derive(Drop)]
+#[derive(Clone, Copy)]
 pub struct Form {
     pub fields: usize,
     pub x: usize,

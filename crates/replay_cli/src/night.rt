@@ -6,10 +6,11 @@ use grid_files::shape::{Shape, nodes_of, side};
 use grid_pictures::draw;
 use knot_files::layout::Layout;
 use rules::{EDITION_2, Halving2, Halving3};
+use std::rt::HostRuntime;
 use words::status::FAILED;
 
 // What a command asks of the halvings.
-#[derive(Drop)]
+#[derive(Clone, Copy)]
 pub struct Wish {
     pub first: u32,
     pub depth: u32,
@@ -146,6 +147,7 @@ fn replay_in(
 
 // Shows what is asked for of a night.
 fn show(
+    rt: HostRuntime,
     line: &[u8],
     text: &[u8],
     layout: Layout,
@@ -157,10 +159,11 @@ fn show(
     ids: &[u32; 65536],
 ) -> u8 {
     match asked::shown(line) {
-        0 => answers::print(text, layout, n, starts, answers),
-        1 => listing::print(shape, true, weights, ids),
-        2 => summary::print(shape, asked::depth(line), n, weights, answers, ids),
+        0 => answers::print(rt, text, layout, n, starts, answers),
+        1 => listing::print(rt, shape, true, weights, ids),
+        2 => summary::print(rt, shape, asked::depth(line), n, weights, answers, ids),
         3 => draw(
+            rt,
             asked::grid(line),
             asked::trace(line),
             shape,
@@ -168,12 +171,13 @@ fn show(
             weights,
             ids,
         ),
-        _ => listing::print(shape, false, weights, ids),
+        _ => listing::print(rt, shape, false, weights, ids),
     }
 }
 
 // Replays n events and shows the night, or says why it is refused.
 pub(crate) fn of_events(
+    rt: HostRuntime,
     line: &[u8],
     text: &[u8],
     layout: Layout,
@@ -207,7 +211,7 @@ pub(crate) fn of_events(
         return FAILED;
     }
     let status = show(
-        line, text, layout, shape, n, weights, starts, &answers, &ids,
+        rt, line, text, layout, shape, n, weights, starts, &answers, &ids,
     );
     answers::say_refused(asked::trace(line), n, &answers);
     status

@@ -4,6 +4,8 @@ use crate::answers::counted;
 use crate::digits;
 use grid_files::shape::{Shape, nodes_of};
 use grid_files::sums::{add, add_to_parts, heaviest, lightest, sum};
+use printing::Buffer;
+use std::rt::HostRuntime;
 use words::status::of_output;
 
 // Adds the weight of cell i to its lines, one across each axis; the lines of axis a stand in the table from 1024 a on.
@@ -34,14 +36,14 @@ fn add_all(lines: &mut [u64; 4096], shape: Shape, weights: &[u64; 65536]) {
 }
 
 // Puts a name and a number, on a line.
-fn put_named(buffer: &mut [u8; 4096], at: usize, name: &[u8], n: u64) -> usize {
+fn put_named(buffer: &mut Buffer, at: usize, name: &[u8], n: u64) -> usize {
     let a = printing::bytes(buffer, at, name);
     let b = printing::number(buffer, a, n);
     printing::byte(buffer, b, b'\n')
 }
 
 // Puts how many of n events there are of each answer.
-fn put_events(buffer: &mut [u8; 4096], n: usize, answers: &[u32; 65536]) -> usize {
+fn put_events(buffer: &mut Buffer, n: usize, answers: &[u32; 65536]) -> usize {
     let a = put_named(buffer, 0, b"events ", n as u64);
     let b = put_named(
         buffer,
@@ -64,7 +66,7 @@ fn put_events(buffer: &mut [u8; 4096], n: usize, answers: &[u32; 65536]) -> usiz
 }
 
 // Puts the two sides of a bound, with how they stand to each other between them.
-fn put_sides(buffer: &mut [u8; 4096], at: usize, left: &[u64; 48], right: &[u64; 48]) -> usize {
+fn put_sides(buffer: &mut Buffer, at: usize, left: &[u64; 48], right: &[u64; 48]) -> usize {
     let next = digits::put(buffer, at, left);
     if digits::at_most(left, right) {
         let a = printing::bytes(buffer, next, b" <= ");
@@ -83,7 +85,7 @@ fn set_larger(side: &mut [u64; 48], a: u64, f: u64, s: u64, k: u32, m: u64) {
 }
 
 // Puts which part it is, and its weight w.
-fn put_part(buffer: &mut [u8; 4096], at: usize, name: &[u8], part: usize, w: u64) -> usize {
+fn put_part(buffer: &mut Buffer, at: usize, name: &[u8], part: usize, w: u64) -> usize {
     let a = printing::bytes(buffer, at, name);
     let b = printing::number(buffer, a, part as u64);
     let c = printing::bytes(buffer, b, b": w ");
@@ -91,7 +93,7 @@ fn put_part(buffer: &mut [u8; 4096], at: usize, name: &[u8], part: usize, w: u64
 }
 
 // What the parts are held against: the levels k, the weight T of all cells and the weight M of the heaviest line.
-#[derive(Drop)]
+#[derive(Clone, Copy)]
 pub struct Held {
     pub k: u32,
     pub t: u64,
@@ -99,7 +101,7 @@ pub struct Held {
 }
 
 // Puts the upper bound of a part of weight w, on a line.
-fn put_upper(buffer: &mut [u8; 4096], at: usize, held: Held, w: u64) -> usize {
+fn put_upper(buffer: &mut Buffer, at: usize, held: Held, w: u64) -> usize {
     let mut left = [0u64; 48];
     let mut right = [0u64; 48];
     digits::set_product(&mut left, w, 99, 200, held.k);
@@ -110,7 +112,7 @@ fn put_upper(buffer: &mut [u8; 4096], at: usize, held: Held, w: u64) -> usize {
 }
 
 // Puts the lower bound of a part of weight w, on a line.
-fn put_lower(buffer: &mut [u8; 4096], at: usize, held: Held, w: u64) -> usize {
+fn put_lower(buffer: &mut Buffer, at: usize, held: Held, w: u64) -> usize {
     let mut left = [0u64; 48];
     let mut right = [0u64; 48];
     digits::set_product(&mut left, held.t, 101, 99, held.k);
@@ -121,7 +123,7 @@ fn put_lower(buffer: &mut [u8; 4096], at: usize, held: Held, w: u64) -> usize {
 }
 
 // Puts what the parts are held against, and the heaviest and the lightest of them with their bounds.
-fn put_parts(buffer: &mut [u8; 4096], at: usize, held: Held, parts: &[u64; 4096]) -> usize {
+fn put_parts(buffer: &mut Buffer, at: usize, held: Held, parts: &[u64; 4096]) -> usize {
     let most = heaviest(parts);
     let least = lightest(parts, nodes_of(held.k));
     let a = put_named(buffer, at, b"T ", held.t);
@@ -144,6 +146,7 @@ fn held_by(k: u32, parts: &[u64; 4096], lines: &[u64; 4096]) -> Held {
 
 // Prints a night in numbers.
 pub(crate) fn print(
+    rt: HostRuntime,
     shape: Shape,
     depth: u32,
     n: usize,
@@ -155,7 +158,7 @@ pub(crate) fn print(
     let mut lines = [0u64; 4096];
     add_to_parts(&mut parts, shape.cells, weights, ids);
     add_all(&mut lines, shape, weights);
-    let mut buffer = [0u8; 4096];
+    let mut buffer = Buffer::of(rt);
     let a = put_events(&mut buffer, n, answers);
     let b = put_parts(&mut buffer, a, held_by(depth, &parts, &lines), &parts);
     of_output(printing::flush(&buffer, b))

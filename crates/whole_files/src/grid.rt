@@ -5,7 +5,7 @@ use console::faults::{LAYER, NOTHING, RAGGED, full, note};
 
 // What has been read: all weights so far, the width of a line and where the first one starts, the height of a layer once it is known,
 // whole layers, and the lines of the open layer.
-#[derive(Drop)]
+#[derive(Clone, Copy)]
 pub struct Grid {
     pub cells: usize,
     pub width: usize,

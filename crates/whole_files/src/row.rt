@@ -5,14 +5,14 @@ use fields::{Field, field_at};
 use wholes::Whole;
 
 // What a number may be: the largest, and the number of refusal of a larger one.
-#[derive(Drop)]
+#[derive(Clone, Copy)]
 pub struct Limit {
     pub most: u64,
     pub refusal: u32,
 }
 
 // A line that was read: how many numbers it has, whether it has a comment, and the place after it.
-#[derive(Drop)]
+#[derive(Clone, Copy)]
 pub struct Row {
     pub numbers: usize,
     pub noted: bool,

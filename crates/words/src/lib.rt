@@ -6,7 +6,7 @@
 
 pub mod status;
 
-ghost use Rattle.std.specs.Prelude.{◌≡◌, T, ◌≤◌, length};
+ghost use Rattle.std.specs.Prelude.{◌≡◌, T, ◌≤◌, length, IfSome};
 
 use std::env::{Env, FillError};
 use std::rt::HostRuntime;
@@ -149,7 +149,7 @@ fn append(line: &mut [u8; 4096], n: usize, what: &[u8]) -> usize {
 
 // Puts argument `i` at the start of the room; how many bytes it has, none where it has no room. `None` behind the last argument.
 pub fn argument(rt: HostRuntime, i: usize, room: &mut [u8; 4096]) -> Option<usize>
-    ensures { Unit {0} }
+    ensures { IfSome result (λ n. n ≤ 4096) }
 {
     match rt.arg(i, room) {
         Ok(size) => Some(size),
@@ -158,19 +158,11 @@ pub fn argument(rt: HostRuntime, i: usize, room: &mut [u8; 4096]) -> Option<usiz
     }
 }
 
-// The first n bytes, or none where there are fewer.
-fn first(bytes: &[u8], n: usize) -> &[u8] {
-    if bytes.len() < n {
-        return &bytes[..0];
-    }
-    &bytes[..n]
-}
-
 // Puts argument `i` behind the first `n` bytes of the line; how many bytes the line has then. `None` behind the last argument.
 fn with_argument(rt: HostRuntime, line: &mut [u8; 4096], n: usize, i: usize) -> Option<usize> {
     let mut buffer = io::buffer();
     match argument(rt, i, &mut buffer) {
-        Some(size) => Some(append(line, n, first(&buffer, size))),
+        Some(size) => Some(append(line, n, &buffer[..size])),
         None => None,
     }
 }
