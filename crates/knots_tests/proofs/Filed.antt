@@ -11,6 +11,10 @@ use Rattle.laws.proofs.Exactly.{untouched}
 use Rattle.knots_tests.specs.Tests.{point_tests}
 use Rattle.knots_tests.proofs.Earlier.{points_refused, points_passed}
 
+-- the two clauses of such a call, by their names
+pub clauses : {A B : Type 0} → A × B → record { value : A; indices_after : B }
+clauses p = record { value = p.0; indices_after = p.1 }
+
 -- a call whose tests give n
 module _ (n : ℕ) (written before : List ℕ) where
   pub files_refusal : (r : ℕ) → r ≡ n → (r ≡ 0 → ⊥) → (r ≡ (filed_by n written before).number) × (before ≡ (filed_by n written before).indices)
