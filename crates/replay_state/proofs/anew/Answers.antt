@@ -7,7 +7,7 @@ use Rattle.replay_state.proofs.anew.Goals as goal
 pub settle-requires : goal.settle-requires
 settle-requires c =
     let r = c.requires in
-    let force = fresh r.accepted (axes c.args.halving) c.halve.auto.ids c.halve.ensures.ids in
+    let force = fresh r.accepted (axes c.args.halving) c.halve.auto.splits c.halve.ensures.ids in
     record {
       weighed = rw r.sides_value (weighed r.accepted (axes c.args.halving));
       named = rw r.sides_value (parts-named r.accepted.shallow (named force));
