@@ -40,6 +40,6 @@ pub returns-clause-ids : goal.returns-clause-ids
 returns-clause-ids c =
     let a = c.args in
     let cuts : c.begin_3d.new.splits ≡ splits_by (halving_of a.edition three_axes a.g a.first a.depth) a.weights.now =
-        c.begin_3d.ensures
-        ∙ whole_tree _ _ _ _ _ _ _ _ _ (omega (arith, c.requires.accepted.first_fits)) c.whole-b.ensures c.clear.ensures c.requires.accepted.splits_long in
+    c.begin_3d.ensures
+    ∙ whole_tree _ _ _ _ _ _ _ _ _ (omega (arith, c.requires.accepted.first_fits)) c.whole-b.ensures c.clear.ensures c.requires.accepted.splits_long in
     c.write_ids.ensures ∙ rw cuts (ids_3d _ a.g.width a.g.height a.g.layers a.first a.depth)

@@ -13,7 +13,7 @@ pub returns-then-number-eq-ANSWERED : goal.returns-then-number-eq-ANSWERED
 returns-then-number-eq-ANSWERED c =
     let a = c.args in
     let not_refused : refusal_of (halving2 a.halving) a.weights.now a.splits.now a.ids.now ≡ 0 =
-        sym c.refusal_2d-number.ensures ∙ c.if-number-eq-ANSWERED.true in
+    sym c.refusal_2d-number.ensures ∙ c.if-number-eq-ANSWERED.true in
     let e = answered (halving2 a.halving) a.weights.now a.splits.now a.ids.now not_refused in
     record {
       number = c.if-number-eq-ANSWERED.true ∙ sym (ap (λ (o : Halved). o.number) e);

@@ -12,8 +12,8 @@ loop-level-preserved c =
     let v = c.loop-level.invariant in
     let l = c.loop-level-test.true in
     elim c.if-at-wide.branch [
-      then-at-wide w ↦ rw (w.node-is, w.id-is) (leftwards v l (omega (arith, w.if-at-wide.true, c.wide.ensures)))
-    | else-at-wide w ↦ rw (w.node-is, w.id-is) (rightwards v l (omega (arith, w.if-at-wide.false, c.wide.ensures)))
+      | then-at-wide w ↦ rw (w.node-is, w.id-is) (leftwards v l (omega (arith, w.if-at-wide.true, c.wide.ensures)))
+      | else-at-wide w ↦ rw (w.node-is, w.id-is) (rightwards v l (omega (arith, w.if-at-wide.false, c.wide.ensures)))
     ]
 
 pub returns : goal.returns

@@ -21,7 +21,7 @@ loop-q-preserved c =
     let q = c.loop-q.q in
     let fits : w * q + w ≤ length a.ids.now = omega (arith, c.requires.ids_len, mul-le-mul_left w (next c.loop-q-test.true)) in
     let wide : length (mid_of (w * q) (w * q + w - w * q) c.loop-q.ids) ≡ w =
-        mid_len (w * q) _ c.loop-q.ids (omega (arith, fits, c.loop-q.auto.ids)) ∙ omega arith in
+    mid_len (w * q) _ c.loop-q.ids (omega (arith, fits, c.loop-q.auto.ids)) ∙ omega arith in
     let row : ℕ → List ℕ = λ n. list (λ x. id_on a.splits.now a.n a.depth a.first x (q % a.height) (q / a.height)) n in
     row_more (id_at a.splits.now a.n a.depth a.first w a.height) w q _ _ _ fits c.loop-q.invariant
-        (c.write_row.ensures ∙ ap row wide ∙ row_is a.splits.now a.n a.depth a.first w a.height q c.requires.width_nonzero.0)
+    (c.write_row.ensures ∙ ap row wide ∙ row_is a.splits.now a.n a.depth a.first w a.height q c.requires.width_nonzero.0)

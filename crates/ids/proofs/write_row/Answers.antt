@@ -14,4 +14,4 @@ unfolding id_on
 loop-x-preserved c =
     let a = c.args in
     rw (c.loop-x.invariant, c.part_of.ensures)
-        (list_more (λ x. id_on a.splits.now a.n a.depth a.first x a.y a.z) a.row.now c.loop-x.x (omega arith))
+    (list_more (λ x. id_on a.splits.now a.n a.depth a.first x a.y a.z) a.row.now c.loop-x.x (omega arith))

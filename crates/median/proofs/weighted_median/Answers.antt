@@ -21,17 +21,17 @@ loop-j-preserved c = step c.loop-j.invariant (omega arith) (omega arith) (c.requ
 pub returns-then-left-lo : goal.returns-then-left-lo
 returns-then-left-lo c =
     let found : reach (total (line_at c.args.sums.now)) c.args.lo 0 (c.args.m - 1) ≡ c.loop-j.j =
-        elim c.loop-j-test.branch [ else-loop-j-test w ↦ over c.loop-j.invariant (omega arith) | then-loop-j-test+then-lo-left w ↦ stop c.loop-j.invariant (omega arith) ] in
+    elim c.loop-j-test.branch [ else-loop-j-test w ↦ over c.loop-j.invariant (omega arith) | then-loop-j-test+then-lo-left w ↦ stop c.loop-j.invariant (omega arith) ] in
     short c.loop-j.invariant _ found c.if-left-lo.true
 
 pub returns-then-left-hi : goal.returns-then-left-hi
 returns-then-left-hi c =
     let found : reach (total (line_at c.args.sums.now)) c.args.lo 0 (c.args.m - 1) ≡ c.loop-j.j =
-        elim c.loop-j-test.branch [ else-loop-j-test w ↦ over c.loop-j.invariant (omega arith) | then-loop-j-test+then-lo-left w ↦ stop c.loop-j.invariant (omega arith) ] in
+    elim c.loop-j-test.branch [ else-loop-j-test w ↦ over c.loop-j.invariant (omega arith) | then-loop-j-test+then-lo-left w ↦ stop c.loop-j.invariant (omega arith) ] in
     within c.loop-j.invariant _ found c.if-left-hi.true
 
 pub returns : goal.returns
 returns c =
     let found : reach (total (line_at c.args.sums.now)) c.args.lo 0 (c.args.m - 1) ≡ c.loop-j.j =
-        elim c.loop-j-test.branch [ else-loop-j-test w ↦ over c.loop-j.invariant (omega arith) | then-loop-j-test+then-lo-left w ↦ stop c.loop-j.invariant (omega arith) ] in
+    elim c.loop-j-test.branch [ else-loop-j-test w ↦ over c.loop-j.invariant (omega arith) | then-loop-j-test+then-lo-left w ↦ stop c.loop-j.invariant (omega arith) ] in
     over-hi c.loop-j.invariant _ found c.if-left-lo.false c.if-left-hi.false
