@@ -1,5 +1,5 @@
 -- `weighted_median` meets its contract: one line after the other is passed, and the cut is where the search ends or one line before.
-use Rattle.std.proofs.Common.{◌≡◌, ◌-◌, ◌≤◌, get_or, arith}
+use Rattle.std.proofs.Common.{◌≡◌, ◌-◌, arith}
 use Rattle.rules.specs.Sums.{total}
 use Rattle.rules.specs.Halving.{reach}
 use Rattle.median.specs.Median.{LinesLight, line_at}
