@@ -1,5 +1,4 @@
 -- After i events the running machine is where the plain one is.
-use Rattle.std.proofs.Common.{◌≡◌, length}
 use Rattle.requests.specs.Replay.{night}
 use Rattle.halve_any.specs.AnyHalving.{any_halving}
 use Rattle.replay_run.proofs.Went.{Went}
@@ -7,5 +6,4 @@ use Rattle.replay_run.proofs.run.Given as goal
 
 abbrev pub invariant-loop-i : goal.invariant-loop-i
 invariant-loop-i l =
-    (length l.answers ≡ length l.cells)
-    × Went (any_halving l.halving) (night l.initial.weights l.cells l.amounts) l.initial.answers l.i l.weights l.answers l.splits l.ids l.running l.lines l.parts l.tree
+    Went (any_halving l.halving) (night l.initial.weights l.cells l.amounts) l.initial.answers l.i l.weights l.answers l.splits l.ids l.running l.lines l.parts l.tree
