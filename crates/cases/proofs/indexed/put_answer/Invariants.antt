@@ -1,6 +1,6 @@
 -- Each turn takes one number.
 use Rattle.std.proofs.Common.{◌-◌, rules}
-use Rattle.cases.proofs.points.put_answer.Given as goal
+use Rattle.cases.proofs.indexed.put_answer.Given as goal
 
 abbrev pub invariant-loop-i : goal.invariant-loop-i
 invariant-loop-i l = Unit {0}
