@@ -1,5 +1,5 @@
 -- The places passed are in the text.
-use Rattle.std.proofs.Common.{◌-◌, ◌≤◌, length, rules}
+use Rattle.std.proofs.Common.{◌-◌, ◌≤◌, length}
 use Rattle.cases.proofs.files.line_end.Given as goal
 
 abbrev pub invariant-loop-i : goal.invariant-loop-i

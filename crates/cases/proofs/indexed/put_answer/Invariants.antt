@@ -1,5 +1,5 @@
 -- Each turn takes one number.
-use Rattle.std.proofs.Common.{◌-◌, rules}
+use Rattle.std.proofs.Common.{◌-◌}
 use Rattle.cases.proofs.indexed.put_answer.Given as goal
 
 abbrev pub invariant-loop-i : goal.invariant-loop-i

@@ -1,5 +1,5 @@
 -- Each word goes on by a byte or more and stays in the line.
-use Rattle.std.proofs.Common.{◌-◌, ◌≤◌, length, rules}
+use Rattle.std.proofs.Common.{◌-◌, ◌≤◌, length}
 use Rattle.cases.proofs.line.read.Given as goal
 
 abbrev pub invariant-loop-at : goal.invariant-loop-at

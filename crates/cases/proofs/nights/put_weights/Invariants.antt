@@ -1,5 +1,5 @@
 -- The places passed are in the room.
-use Rattle.std.proofs.Common.{◌-◌, ◌≤◌, rules}
+use Rattle.std.proofs.Common.{◌-◌, ◌≤◌}
 use Rattle.cases.proofs.nights.put_weights.Given as goal
 
 abbrev pub invariant-loop-i : goal.invariant-loop-i

@@ -1,5 +1,5 @@
 -- The places passed are in the part and in the room.
-use Rattle.std.proofs.Common.{◌-◌, ◌≤◌, rules}
+use Rattle.std.proofs.Common.{◌-◌, ◌≤◌}
 use Rattle.cases.proofs.nights.weighed.Given as goal
 
 abbrev pub invariant-loop-i : goal.invariant-loop-i

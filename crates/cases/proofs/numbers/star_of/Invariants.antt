@@ -1,5 +1,5 @@
 -- The places passed are in the word.
-use Rattle.std.proofs.Common.{◌-◌, ◌≤◌, length, rules}
+use Rattle.std.proofs.Common.{◌-◌, ◌≤◌, length}
 use Rattle.cases.proofs.numbers.star_of.Given as goal
 
 abbrev pub invariant-loop-i : goal.invariant-loop-i

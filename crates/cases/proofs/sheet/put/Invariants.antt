@@ -1,5 +1,4 @@
 -- Each turn leaves one less.
-use Rattle.std.proofs.Common.{rules}
 use Rattle.cases.proofs.sheet.put.Given as goal
 
 abbrev pub invariant-loop-left : goal.invariant-loop-left

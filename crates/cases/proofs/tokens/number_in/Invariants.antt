@@ -1,5 +1,5 @@
 -- Each word goes on by a byte or more.
-use Rattle.std.proofs.Common.{◌-◌, ◌≤◌, length, rules}
+use Rattle.std.proofs.Common.{◌-◌, ◌≤◌, length}
 use Rattle.cases.proofs.tokens.number_in.Given as goal
 
 abbrev pub invariant-loop-at : goal.invariant-loop-at
