@@ -6,7 +6,7 @@ use crate::axes::{cell, extent_of};
 use crate::curves::{decode_2d, decode_3d, encode};
 use crate::sheet::{ANSWERED, FIRST_PART, NEXT, PARTS, WANTED, numbers_at, put};
 use crate::tokens::number_in;
-use crate::{along, grids, nights, points};
+use crate::{along, grids, indexed, nights};
 
 // An order, side or depth; anything larger is refused all the same.
 pub(crate) fn small(n: u64) -> u32 {
@@ -76,8 +76,8 @@ pub(crate) fn call(name: &[u8], sheet: &mut [u64; 331776]) {
     sheet[ANSWERED] = sheet[NEXT];
     match request {
         1043 | 1144 => grids::rcb(0, sheet),
-        1240 | 1241 | 1445 => points::index(request, 7, sheet),
-        1350 | 1351 | 1557 => points::index(request, 8, sheet),
+        1240 | 1241 | 1445 => indexed::index(request, 7, sheet),
+        1350 | 1351 | 1557 => indexed::index(request, 8, sheet),
         1645 | 1746 => grids::rcb(1, sheet),
         1851 => along::parts_along(sheet),
         1975 | 2076 => nights::night(sheet),

@@ -2,6 +2,9 @@
 ghost use Rattle.std.specs.Prelude.{◌<◌, ◌≤◌, length};
 
 use crate::verdicts::{DIFFERS, UNREAD, of_line, say};
+use std::fs::File;
+use std::os::fd::AsRawFd;
+use std::rt::HostRuntime;
 
 // What stands for the size of a file that cannot be opened.
 const NO_FILE: usize = 18446744073709551615;
@@ -46,14 +49,14 @@ fn run_lines(text: &[u8], sheet: &mut [u64; 331776]) {
 }
 
 // Reads the file of a name into the room; how many bytes it has.
-fn read(name: &[u8], bytes: &mut [u8; 1048576]) -> usize {
-    let file = os::open_read(name);
-    let size = io::read_full(file, bytes);
-    libc::close(file);
-    if file < 0 {
+fn read(rt: HostRuntime, name: &[u8], bytes: &mut [u8; 1048576]) -> usize {
+    let Ok(name) = std::str::from_utf8(name) else {
         return NO_FILE;
-    }
-    size
+    };
+    let Ok(file) = File::open(&rt, name) else {
+        return NO_FILE;
+    };
+    io::read_full(file.as_raw_fd(), bytes)
 }
 
 // Says why a file is not run; a room that is full means a file that was cut.
@@ -76,15 +79,15 @@ fn run_first(bytes: &[u8], size: usize) {
 }
 
 // Reads a file into the room and runs it.
-fn run_in(name: &[u8], bytes: &mut [u8; 1048576]) {
-    let size = read(name, bytes);
+fn run_in(rt: HostRuntime, name: &[u8], bytes: &mut [u8; 1048576]) {
+    let size = read(rt, name, bytes);
     run_first(bytes, size);
 }
 
 // Runs the cases of a file by its name.
-pub(crate) fn run(name: &[u8]) {
+pub(crate) fn run(rt: HostRuntime, name: &[u8]) {
     let mut bytes = [0u8; 1048576];
     io::write_all(1, name);
     say(b"\n", 0, 0, 0);
-    run_in(name, &mut bytes);
+    run_in(rt, name, &mut bytes);
 }

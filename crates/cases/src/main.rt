@@ -15,26 +15,33 @@ mod curves;
 mod files;
 mod floats;
 mod grids;
+mod indexed;
 mod line;
 mod nights;
 mod numbers;
-mod points;
 mod sheet;
 mod tokens;
 mod verdicts;
 
-// Runs the file that argument i names.
-fn run_argument(i: usize) {
+use std::rt::HostRuntime;
+use words::argument;
+
+// Runs the file that argument i names; whether there is such an argument.
+fn run_argument(rt: HostRuntime, i: usize) -> bool {
     let mut name = io::buffer();
-    let size = os::arg(i, &mut name);
-    files::run(&name[..size]);
+    match argument(rt, i, &mut name) {
+        Some(size) => {
+            files::run(rt, &name[..size]);
+            true
+        }
+        None => false,
+    }
 }
 
-fn main() {
-    let count = os::arg_count();
-    let mut i: usize = 1;
-    while i < count {
-        run_argument(i);
-        i += 1;
+fn main(rt: HostRuntime) {
+    for i in 1..usize::MAX {
+        if !run_argument(rt, i) {
+            return;
+        }
     }
 }

@@ -5,4 +5,4 @@
 
 pub mod division;
 pub mod sums;
-pub mod weights;
+pub mod weighed;

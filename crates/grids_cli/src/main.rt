@@ -4,7 +4,7 @@
 // the depth, what is to be shown, the edition, and the first axis. What is not asked for is an empty word.
 #![tactic(auto)]
 
-mod halve;
+mod halved;
 mod splits;
 
 use console::files;
@@ -19,7 +19,7 @@ fn carry_out(rt: HostRuntime, line: &[u8], bytes: &mut [u8; 4194304]) -> u8 {
     let Size::Bytes(size) = read else {
         return FAILED;
     };
-    halve::of_text(rt, line, files::text(bytes, size))
+    halved::of_text(rt, line, files::text(bytes, size))
 }
 
 fn carry_out_in(rt: HostRuntime, line: &[u8; 4096], bytes: &mut [u8; 4194304]) {

@@ -2,7 +2,7 @@
 use crate::asked;
 use console::faults::{full, say_all};
 use console::lines::fields_on;
-use divisions::weights::read_weight;
+use divisions::weighed::read_weight;
 use knot_columns::columns;
 use knot_columns::columns::{NO_COLUMN, say_unknown};
 use knot_files::layout::Layout;

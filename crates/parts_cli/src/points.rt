@@ -1,6 +1,6 @@
 // Points out of the lines of a list: the index and the weight of each, and where its line starts.
 use console::faults::{NOTHING, full, note};
-use divisions::weights::read_weight;
+use divisions::weighed::read_weight;
 use whole_files::row;
 use whole_files::row::{Limit, Row};
 
