@@ -1,0 +1,5 @@
+-- `skarvolm_index_3d` meets its contract: it hands its call on.
+use Rattle.skarvolm.proofs.skarvolm_index_3d.Goals as goal
+
+pub returns : goal.returns
+returns c = record { number = c.index_3d.ensures.value; filed = c.index_3d.ensures.indices_after }

@@ -1,0 +1,5 @@
+-- `skarvolm_index_3d_in` meets its contract: it hands its call on.
+use Rattle.skarvolm.proofs.skarvolm_index_3d_in.Goals as goal
+
+pub returns : goal.returns
+returns c = record { number = c.index_3d_in.ensures.value; filed = c.index_3d_in.ensures.indices_after }
