@@ -1,15 +1,58 @@
--- What is known of the heaviest and the lightest when a part has been raised.
-use Prim.Native.Nat.{ℕ, ◌+◌, ◌<◌}
+-- A raised part is heavier than the heaviest, or the heaviest stays so.
+use Prim.Native.Nat.{ℕ, ◌+◌, ◌≤◌, ◌<◌}
 use native.Mathlib.Omega.{arith}
+use native.Mathlib.Nat.{eq-or-lt_of_le, le_refl, le_of_lt, le_trans}
+use mathlib.Core.Bool.{true, false}
+use mathlib.Core.Logic.{⊎_elim, ◌⊎◌, inl, inr}
 use mathlib.Core.Path.{◌≡◌}
 use mathlib.Core.List.{List}
 use lib.Dec.{eqb}
-use borrow.Author.Tests.{ne_eqb}
+use borrow.Author.Tests.{eqb-true, eqb-false, ne_eqb}
 use Rattle.rules.specs.Sums.{pick}
 use Rattle.requests.specs.Order.{at}
+use Rattle.tally_laws.proofs.Lines.{either}
 use Rattle.lightest.proofs.Root.{raised_one}
-use Rattle.watch.specs.Watched.{Watched, Was}
+use Rattle.watch.specs.Watched.{Heaviest, Watched, Was}
 
+-- one part more is looked at
+last? : (i n : ℕ) → i < n + 1 → (i ≡ n) ⊎ (i < n)
+last? i n h = let l : i ≤ n = omega arith in eq-or-lt_of_le l
+
+module _ (parts : List ℕ) where
+  pub heaviest_one : Heaviest 1 parts 0
+  heaviest_one = record { inside = omega arith; top = λ i l. let e : i ≡ 0 = omega arith in rw e (le_refl _) }
+
+  pub heaviest_next : (n r : ℕ) → Heaviest n parts r → at parts r < at parts n → Heaviest (n + 1) parts n
+  heaviest_next n r h l =
+      record {
+        inside = omega arith;
+        top = λ i q. ⊎_elim (λ (e : i ≡ n). rw e (le_refl _)) (λ (p : i < n). le_trans (h.top i p) (le_of_lt l)) (last? i n q);
+      }
+
+  pub heaviest_stays : (n r : ℕ) → Heaviest n parts r → at parts n ≤ at parts r → Heaviest (n + 1) parts r
+  heaviest_stays n r h l =
+      record {
+        inside = omega (arith, h.inside);
+        top = λ i q. ⊎_elim (λ (e : i ≡ n). rw e l) (λ (p : i < n). h.top i p) (last? i n q);
+      }
+
+-- once the raised part is compared
+module _ {n part most : ℕ} {parts tree : List ℕ} (w : Was n part parts most tree) where
+  pub now_heaviest : part < n → at parts most < at parts part → Heaviest n parts part
+  now_heaviest l h = record { inside = l; top = λ i q. go i q (either (eqb part i)) }
+    where
+      go : (i : ℕ) → i < n → (eqb part i ≡ true) ⊎ (eqb part i ≡ false) → at parts i ≤ at parts part
+      go i q (inl t) = rw (eqb-true part i t) (le_refl _)
+      go i q (inr t) = le_trans (w.top i q (eqb-false part i t)) (le_of_lt h)
+
+  pub still_heaviest : at parts part ≤ at parts most → Heaviest n parts most
+  still_heaviest h = record { inside = w.inside; top = λ i q. go i q (either (eqb part i)) }
+    where
+      go : (i : ℕ) → i < n → (eqb part i ≡ true) ⊎ (eqb part i ≡ false) → at parts i ≤ at parts most
+      go i q (inl t) = rw (← eqb-true part i t) h
+      go i q (inr t) = w.top i q (eqb-false part i t)
+
+-- what is known when a part has been raised
 pub was : {n most : ℕ} {before parts tree : List ℕ} → Watched n before most tree → (part amount : ℕ) → part < n
     → ((i : ℕ) → i < n → at parts i ≡ at before i + pick (eqb part i) amount 0) → Was n part parts most tree
 unfolding pick

@@ -1,16 +1,12 @@
 -- A refused call writes nothing, and any other is accepted, put in order and given its parts.
-use Rattle.std.proofs.Common.{◌≡◌, ap, sym, ◌∙◌, arith}
+use Rattle.std.proofs.Common.{ap, sym, ◌∙◌, arith}
 use lib.Dec.{lit≤}
-use Rattle.rules.specs.Refusals.{first_of}
-use Rattle.requests.specs.Parts.{Parted, parts_tests}
+use Rattle.requests.specs.Parts.{Parted}
 use Rattle.parts_laws.proofs.Accepted.{lengths_fit, accepted, refused, answered}
 use Rattle.parts.proofs.parts_along.Goals as goal
 
 pub in_order-requires-clause-indices_len_bound : goal.in_order-requires-clause-indices_len_bound
-in_order-requires-clause-indices_len_bound c =
-    let a = c.args in
-    let h : first_of (parts_tests a.n a.indices.now a.weights.now a.parts.now a.order.now) ≡ 0 = omega (arith, c.refusal-number.ensures) in
-    (accepted _ _ _ _ _ h).short
+in_order-requires-clause-indices_len_bound c = (accepted _ _ _ _ _ (sym c.refusal-number.ensures ∙ c.if-number-eq-ANSWERED.true)).short
 
 pub in_order-requires-clause-points_len : goal.in_order-requires-clause-points_len
 in_order-requires-clause-points_len c =
