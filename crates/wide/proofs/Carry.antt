@@ -1,7 +1,7 @@
 -- Sums by columns: what is carried, and what is left of three columns.
-use Prim.Native.Nat.{ℕ, suc, ◌+◌, ◌*◌, ◌/◌, ◌%◌, ◌≤◌, ◌<◌}
+use Prim.Native.Nat.{ℕ, suc, ◌+◌, ◌*◌, ◌/◌, ◌%◌, ◌^◌, ◌-◌, ◌≤◌, ◌<◌}
 use native.Mathlib.Omega.{arith}
-use native.Mathlib.Nat.{div-add-mod, lt_of_mul-lt-mul_left, lt_of_not-le, mod-lt, mul-le-mul_left}
+use native.Mathlib.Nat.{div-add-mod, lt_of_mul-lt-mul_left, lt_of_not-le, mod-lt, mul-le-mul, mul-le-mul_left}
 use mathlib.Core.Path.{◌≡◌, ap, sym, ◌∙◌}
 use lib.Dec.{lit<}
 use Rattle.wide.specs.Value.{value, Limbs, Holds, room, limb}
@@ -32,6 +32,22 @@ columns p q r n e h =
       };
       value = c;
     }
+
+-- a limb times a byte fits, with a carry
+pub limb_times_byte : {x s : ℕ} → x < limb → s < 256 → x * s + 255 < 2 ^ 64
+limb_times_byte {x} {s} h l = omega (arith, mul-le-mul (pred-le x limb h) (pred-le s 256 l))
+  where
+    pred-le : (i n : ℕ) → i < n → i ≤ n - 1
+    pred-le i n h = omega arith
+
+carry_small : (y : ℕ) → y < 2 ^ 64 → y / limb ≤ 255
+carry_small y h = omega arith
+
+-- the last column with its carry fits
+pub last_column : (p q r : ℕ) → p < 2 ^ 64 → q + 255 < 2 ^ 64 → r + 255 < 2 ^ 64 → r + (q + p / limb) / limb < 2 ^ 64
+last_column p q r h i j =
+    let c : q + p / limb < 2 ^ 64 = omega (arith, carry_small p h) in
+    omega (arith, carry_small (q + p / limb) c)
 
 -- which of two numbers is larger goes by the first digit from the top that differs
 over : (b x i y j : ℕ) → x < b → i < j → x + b * i < y + b * j
