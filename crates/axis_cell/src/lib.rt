@@ -10,11 +10,11 @@
 #![tactic(auto)]
 
 ghost use Rattle.std.specs.Prelude.{◌≡◌, false, is_nan};
-ghost use Rattle.rules.specs.Refusals.{first_of, cell_tests, read_cell};
+ghost use Rattle.rules.specs.Refusals.{first_of, cell_tests};
 ghost use Rattle.rules.specs.Axis.{low_of, high_of, order_of, same_bits, made_up, cell_on, cell_of};
 
 use axis_make::{make_axis, unfit};
-use rules::{ANSWERED, Axis, AxisAnswer, CellAnswer, REFUSED_OUTSIDE, REFUSED_VALUE};
+use rules::{Axis, Refusal};
 
 // The low end of an axis.
 pub fn low_of(axis: Axis) -> f64
@@ -37,7 +37,7 @@ pub fn high_of(axis: Axis) -> f64
 }
 
 // The order of an axis.
-fn order_of(axis: Axis) -> u32
+pub fn order_of(axis: Axis) -> u32
     ensures { result ≡ order_of axis }
 {
     match axis {
@@ -46,38 +46,29 @@ fn order_of(axis: Axis) -> u32
     }
 }
 
-// Whether two f64 are the same bits, the second being no NaN.
+// Whether two f64 are the same bits, the second being no NaN. Not `==`, which takes 0.0 for -0.0.
+#[tactic(auto, unfolding(rules::specs::Axis::same_bits))]
 fn same_bits(f: f64, g: f64) -> bool
     requires { is_nan g ≡ false }
     ensures { result ≡ same_bits f g }
 {
-    if f != f {
-        return false;
-    }
-    f64::to_bits(f) == f64::to_bits(g)
+    !f.is_nan() && f.to_bits() == g.to_bits()
 }
 
 // Whether making an axis record anew is refused or gives another.
+#[tactic(auto, using(axis_laws::proofs::MadeUp::made_no_nan), unfolding(rules::specs::Axis::is_anew, rules::specs::Axis::made_up))]
 pub fn made_up(axis: Axis) -> bool
     ensures { result ≡ made_up axis }
 {
-    let answer = make_axis(low_of(axis), high_of(axis), order_of(axis));
-    let AxisAnswer::Made(anew) = answer else {
+    let Ok(anew) = make_axis(low_of(axis), high_of(axis), order_of(axis)) else {
         return true;
     };
-    match axis {
-        Axis::Flat { .. } => {
-            let Axis::Flat { .. } = anew else {
-                return true;
-            };
-            false
-        }
-        Axis::Sloped { factor, .. } => {
-            let Axis::Sloped { factor: right, .. } = anew else {
-                return true;
-            };
+    match (anew, axis) {
+        (Axis::Flat { .. }, Axis::Flat { .. }) => false,
+        (Axis::Sloped { factor: right, .. }, Axis::Sloped { factor, .. }) => {
             !same_bits(factor, right)
         }
+        _ => true,
     }
 }
 
@@ -93,30 +84,18 @@ pub fn cell_on(axis: Axis, value: f64) -> u64
 }
 
 // The cell of a value on an axis, or its refusal.
-pub fn cell(axis: Axis, value: f64) -> CellAnswer
+#[tactic(auto, using(std::proofs::Common::tests), unfolding(rules::specs::Refusals::cell_tests, rules::specs::Axis::cell_of))]
+pub fn cell(axis: Axis, value: f64) -> Result<u64, Refusal>
     ensures { result ≡ cell_of axis value }
 {
     if made_up(axis) {
-        return CellAnswer::Refused(REFUSED_OUTSIDE);
+        return Err(Refusal::Outside);
     }
     if unfit(value) {
-        return CellAnswer::Refused(REFUSED_VALUE);
+        return Err(Refusal::Value);
     }
-    if value < low_of(axis) {
-        return CellAnswer::Refused(REFUSED_OUTSIDE);
+    if value < low_of(axis) || high_of(axis) < value {
+        return Err(Refusal::Outside);
     }
-    if high_of(axis) < value {
-        return CellAnswer::Refused(REFUSED_OUTSIDE);
-    }
-    CellAnswer::Cell(cell_on(axis, value))
-}
-
-// The number of refusal of a cell's answer, 0 for a cell.
-pub fn cell_refusal(answer: CellAnswer) -> u32
-    ensures { result ≡ (read_cell answer).number }
-{
-    match answer {
-        CellAnswer::Cell(_) => ANSWERED,
-        CellAnswer::Refused(number) => number,
-    }
+    Ok(cell_on(axis, value))
 }

@@ -1,22 +1,23 @@
 -- The axis of fit points is refused only for its order or for being thin, and else accepts each of the points. Assumes nothing.
 use mathlib.Core.Path.{◌≡◌, refl, sym, ◌∙◌, subst}
 use Prim.Native.Nat.{ℕ, ◌≤◌, ◌<◌, ◌^◌}
-use native.Mathlib.Omega.{arith}
 use mathlib.Core.Bool.{Bool, true, false, cond}
-use mathlib.Core.List.{List}
+use mathlib.Core.List.{List, [], ◌∷◌}
 use lib.Dec.{T}
 use borrow.Author.Tests.{le-ltb}
 use lib.ListN.{length, get_or}
 use lib.Ieee.{Float, eq}
+use Rattle.std.specs.Prelude.{Ok, Err}
 use Rattle.rules.specs.Sums.{any}
-use Rattle.rules.specs.Refusals.{first_of, top2, nought, width, refuse, value_unfit, order_over, axis_tests, cell_tests, axis_by, cell_by}
+use Rattle.rules.specs.Refusals.{first_of, top2, nought, width, refuse, value_unfit, order_over, axis_tests, cell_tests, test, answer_by}
 use Rattle.rules.specs.Axis.{factor_of, axis_of, make_axis, low_of, high_of, order_of, made_up, cell_of, extent_of}
 use Rattle.rules.specs.Knots.{thin_over, axis_over, knot}
 use Rattle.rules.specs.declared.Axis.{Axis}
 use Rattle.rules.specs.declared.Axis.TheVariants.{Flat, Sloped}
-use Rattle.rules.specs.declared.AxisAnswer.TheVariants as made
-use Rattle.rules.specs.declared.CellAnswer.TheVariants as found
+use Rattle.rules.specs.declared.refusal.Refusal.{Refusal}
+use Rattle.rules.specs.declared.refusal.Refusal.TheVariants.{Thin}
 use Rattle.laws.proofs.Any.{none_at}
+use Rattle.laws.proofs.Readings.{answered}
 use Rattle.axis_laws.proofs.AtMost.{at_most→nlt}
 use Rattle.axis_laws.proofs.Passed.{fit_finite, inside_answered}
 use Rattle.axis_laws.proofs.MadeUp.{in_format, not_made_up}
@@ -51,33 +52,34 @@ module _ (xs : List Float) (order : ℕ) (some : 0 < length xs) (fit : any value
       rw (p.low_fit, p.high_fit, o)
 
   -- its answer, by whether it is thin
-  by_thin : order ≤ top2 → make_axis (extent_of xs).low (extent_of xs).high order ≡ axis_by (refuse (thin_over xs) 7 0) (axis_over xs order)
-  unfolding make_axis axis_over
-  by_thin few = rw (refused_order_or_thin, le-ltb top2 order few)
+  by_thin : order ≤ top2 → make_axis (extent_of xs).low (extent_of xs).high order ≡ answer_by (test (thin_over xs) Thin ∷ []) (axis_over xs order)
+  unfolding make_axis axis_over axis_tests any
+  by_thin few =
+      let p = extent_proper xs some fit in
+      let o = at_most→nlt (extent_of xs).high (extent_of xs).low (fit_finite _ p.high_fit) (fit_finite _ p.low_fit) p.ordered in
+      rw (le-ltb top2 order few, p.low_fit, p.high_fit, o)
 
-  pub over_refused : (n : ℕ) → order ≤ top2 → make_axis (extent_of xs).low (extent_of xs).high order ≡ made.Refused n → (thin_over xs ≡ true) × (n ≡ 7)
-  unfolding axis_by
-  over_refused n few e = go (thin_over xs) (sym (by_thin few) ∙ e)
+  pub over_refused : (r : Refusal) → order ≤ top2 → make_axis (extent_of xs).low (extent_of xs).high order ≡ Err r → (thin_over xs ≡ true) × (r ≡ Thin)
+  over_refused r few e = go (thin_over xs) (sym (by_thin few) ∙ e)
     where
-      go : (b : Bool) → axis_by (refuse b 7 0) (axis_over xs order) ≡ made.Refused n → (b ≡ true) × (n ≡ 7)
+      go : (b : Bool) → answer_by (test b Thin ∷ []) (axis_over xs order) ≡ Err r → (b ≡ true) × (r ≡ Thin)
       go true p = (refl, cc)
-      go false p = let y : ◌≡◌ {A = ℕ} 0 1 = cc in absurd (omega arith)
+      go false p = cc
 
-  pub over_made : (a : Axis) → order ≤ top2 → make_axis (extent_of xs).low (extent_of xs).high order ≡ made.Made a → (thin_over xs ≡ false) × (a ≡ axis_over xs order)
-  unfolding axis_by
+  pub over_made : (a : Axis) → order ≤ top2 → make_axis (extent_of xs).low (extent_of xs).high order ≡ Ok a → (thin_over xs ≡ false) × (a ≡ axis_over xs order)
   over_made a few e = go (thin_over xs) (sym (by_thin few) ∙ e)
     where
-      go : (b : Bool) → axis_by (refuse b 7 0) (axis_over xs order) ≡ made.Made a → (b ≡ false) × (a ≡ axis_over xs order)
-      go true p = let y : ◌≡◌ {A = ℕ} 0 1 = cc in absurd (omega arith)
+      go : (b : Bool) → answer_by (test b Thin ∷ []) (axis_over xs order) ≡ Ok a → (b ≡ false) × (a ≡ axis_over xs order)
+      go true p = cc
       go false p = (refl, cc)
 
   module _ (few : order ≤ top2) (thick : thin_over xs ≡ false) where
     pub not_refused : first_of (axis_tests (extent_of xs).low (extent_of xs).high order) ≡ 0
     not_refused = refused_order_or_thin ∙ rw (le-ltb top2 order few, thick)
 
-    pub made_over : make_axis (extent_of xs).low (extent_of xs).high order ≡ made.Made (axis_over xs order)
-    unfolding make_axis axis_by axis_over
-    made_over = rw not_refused
+    pub made_over : make_axis (extent_of xs).low (extent_of xs).high order ≡ Ok (axis_over xs order)
+    unfolding make_axis axis_over
+    made_over = answered (axis_tests (extent_of xs).low (extent_of xs).high order) _ not_refused
 
     pub over_not_made_up : made_up (axis_over xs order) ≡ false
     unfolding axis_over
@@ -102,9 +104,9 @@ module _ (xs : List Float) (order : ℕ) (some : 0 < length xs) (fit : any value
           not_above = at_most→nlt (extent_of xs).high x (fit_finite _ p.high_fit) (fit_finite x f) k.below;
         }))
 
-    pub knot_found : (i : ℕ) → i < length xs → cell_of (axis_over xs order) (get_or xs i nought) ≡ found.Cell (knot xs order i)
-    unfolding cell_of cell_by knot
-    knot_found i h = rw (accepts i h)
+    pub knot_found : (i : ℕ) → i < length xs → cell_of (axis_over xs order) (get_or xs i nought) ≡ Ok (knot xs order i)
+    unfolding cell_of knot
+    knot_found i h = answered (let a = axis_over xs order in cell_tests (made_up a) (low_of a) (high_of a) (get_or xs i nought)) _ (accepts i h)
 
     pub knot_below : (i : ℕ) → i < length xs → knot xs order i < 2 ^ order
     unfolding axis_over knot

@@ -1,16 +1,16 @@
 -- The cell of every accepted value lies below 2^order. Assumes nothing.
-use mathlib.Core.Path.{◌≡◌, refl, sym, subst}
-use Prim.Native.Nat.{ℕ, zero, suc, ◌≤◌, ◌<◌, ◌^◌}
-use native.Mathlib.Omega.{arith}
+use mathlib.Core.Path.{◌≡◌, sym, subst}
+use Prim.Native.Nat.{ℕ, ◌≤◌, ◌<◌, ◌^◌}
 use mathlib.Core.Bool.{false}
 use lib.Dec.{T}
 use lib.Pow.{pow_pos}
+use Rattle.std.specs.Prelude.{Ok}
 use lib.Ieee.{Float, binary64, fits, eq}
-use Rattle.rules.specs.Refusals.{first_of, nought, width, axis_tests, cell_tests, cell_by}
+use Rattle.rules.specs.Refusals.{first_of, nought, width, axis_tests, cell_tests}
 use Rattle.rules.specs.Axis.{factor_of, low_of, high_of, order_of, made_up, cell_on, cell_of}
 use Rattle.rules.specs.declared.Axis.{Axis}
 use Rattle.rules.specs.declared.Axis.TheVariants.{Flat, Sloped}
-use Rattle.rules.specs.declared.CellAnswer.TheVariants as found
+use Rattle.laws.proofs.Readings.{answered_by}
 use Rattle.axis_laws.proofs.ProductBelow.{Ready, ready_cell, product}
 use Rattle.axis_laws.proofs.Passed.{sound, inside}
 use Rattle.axis_laws.proofs.AtMostOneStep.{few, factor_ready}
@@ -48,13 +48,9 @@ on_below (Flat low high order) value i e = pow_pos order
 on_below (Sloped low high order factor) value i e = ready_cell (product factor value low) order (accepted_ready low high order factor value i e)
 
 -- a value that has a cell passes every test, and the cell is that of the rule
-pub cell_found : (a : Axis) (value : Float) (c : ℕ) → cell_of a value ≡ found.Cell c → (first_of (cell_tests (made_up a) (low_of a) (high_of a) value) ≡ 0) × (cell_on a value ≡ c)
-unfolding cell_of cell_by
-cell_found a value c e = go (first_of (cell_tests (made_up a) (low_of a) (high_of a) value)) e
-  where
-    go : (n : ℕ) → cell_by n (cell_on a value) ≡ found.Cell c → (n ≡ 0) × (cell_on a value ≡ c)
-    go zero q = (refl, cc)
-    go (suc n) q = let y : ◌≡◌ {A = ℕ} 0 1 = cc in absurd (omega arith)
+pub cell_found : (a : Axis) (value : Float) (c : ℕ) → cell_of a value ≡ Ok c → (first_of (cell_tests (made_up a) (low_of a) (high_of a) value) ≡ 0) × (cell_on a value ≡ c)
+unfolding cell_of
+cell_found a value c e = answered_by (cell_tests (made_up a) (low_of a) (high_of a) value) (cell_on a value) c e
 
-pub cell_below : (a : Axis) (value : Float) (c : ℕ) → T (in_format a) → cell_of a value ≡ found.Cell c → c < 2 ^ order_of a
+pub cell_below : (a : Axis) (value : Float) (c : ℕ) → T (in_format a) → cell_of a value ≡ Ok c → c < 2 ^ order_of a
 cell_below a value c i e = let f = cell_found a value c e in subst (λ (k : ℕ). k < 2 ^ order_of a) f.1 (on_below a value i f.0)

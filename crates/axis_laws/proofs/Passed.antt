@@ -41,7 +41,7 @@ pub record Sound (low high : Float) (order : ℕ) : Type 0 where
 pub sound : (low high : Float) (order : ℕ) → first_of (axis_tests low high order) ≡ 0 → Sound low high order
 unfolding axis_tests any
 sound low high order e =
-    let none = none_passes (axis_tests low high order) tt e in
+    let none = none_passes (axis_tests low high order) e in
     let l = neither (value_unfit low) (value_unfit high || false) none.1.0 in
     record {
       order_fit = ltb-false top2 order none.0;
@@ -62,11 +62,11 @@ pub record Inside (made_up : Bool) (low high value : Float) : Type 0 where
 pub inside : (made_up : Bool) (low high value : Float) → first_of (cell_tests made_up low high value) ≡ 0 → Inside made_up low high value
 unfolding cell_tests
 inside made_up low high value e =
-    let none = none_passes (cell_tests made_up low high value) tt e in
+    let none = none_passes (cell_tests made_up low high value) e in
     let d = neither (lt value low) (lt high value) none.1.1.0 in
     record { made = none.0; value_fit = none.1.0; not-below = d.0; not_above = d.1 }
 
 pub inside_answered : (made_up : Bool) (low high value : Float) → Inside made_up low high value → first_of (cell_tests made_up low high value) ≡ 0
 unfolding cell_tests
 inside_answered made_up low high value i =
-    (exactly (cell_tests made_up low high value) tt).none (i.made, (i.value_fit, (rw (i.not-below, i.not_above), tt)))
+    (exactly (cell_tests made_up low high value)).none (i.made, (i.value_fit, (rw (i.not-below, i.not_above), tt)))

@@ -9,8 +9,6 @@ use Rattle.axis_make.proofs.make_axis.Kinds as make-axis-kinds
 use Rattle.axis_make.proofs.make_axis.Reads as make-axis-reads
 use Rattle.axis_make.proofs.make_axis_default.Kinds as make-axis-default-kinds
 use Rattle.axis_make.proofs.make_axis_default.Reads as make-axis-default-reads
-use Rattle.axis_make.proofs.axis_refusal.Kinds as axis-refusal-kinds
-use Rattle.axis_make.proofs.axis_refusal.Reads as axis-refusal-reads
 
 pub unfit_only : Only unfit-kinds.ps unfit-kinds.r unfit-reads.Post
 unfit_only κs a y z e f p q = p ∙ sym q
@@ -23,6 +21,3 @@ make_axis_only κs a y z e f p q = p ∙ sym q
 
 pub make_axis_default_only : Only make-axis-default-kinds.ps make-axis-default-kinds.r make-axis-default-reads.Post
 make_axis_default_only κs a y z e f p q = p ∙ sym q
-
-pub axis_refusal_only : Only axis-refusal-kinds.ps axis-refusal-kinds.r axis-refusal-reads.Post
-axis_refusal_only κs a y z e f p q = p ∙ sym q

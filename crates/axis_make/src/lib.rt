@@ -11,24 +11,18 @@
 ghost use Rattle.std.specs.Prelude.{◌≡◌, false, ◌≤◌};
 ghost use Rattle.std.specs.Float.{binary64};
 ghost use Rattle.std.specs.Float.Ieee.{to_bits, eq};
-ghost use Rattle.rules.specs.Refusals.{first_of, nought, width, value_unfit, axis_thin, axis_tests, read_axis};
+ghost use Rattle.rules.specs.Refusals.{first_of, nought, width, value_unfit, axis_thin, axis_tests};
 ghost use Rattle.rules.specs.Curve.{default_order};
 ghost use Rattle.rules.specs.Axis.{next_down, factor_of, make_axis};
 
-use rules::{
-    ANSWERED, Axis, AxisAnswer, DEFAULT_ORDER, LEAST_WIDTH, REFUSED_ORDER, REFUSED_OUTSIDE,
-    REFUSED_THIN, REFUSED_VALUE, TOP_ORDER_2D, TOP_VALUE,
-};
+pub use apart::refusal_of;
+use rules::{Axis, DEFAULT_ORDER, LEAST_WIDTH, Refusal, TOP_ORDER_2D, TOP_VALUE};
 
 // Whether a value is NaN, infinite, or too large in size.
 pub fn unfit(value: f64) -> bool
     ensures { result ≡ value_unfit value }
 {
-    if -TOP_VALUE <= value {
-        !(value <= TOP_VALUE)
-    } else {
-        true
-    }
+    !(-TOP_VALUE <= value && value <= TOP_VALUE)
 }
 
 // Whether an axis from low to high is thin.
@@ -36,11 +30,7 @@ pub fn thin(low: f64, high: f64) -> bool
     ensures { result ≡ axis_thin low high }
 {
     let width = high - low;
-    if 0.0 < width {
-        width < LEAST_WIDTH
-    } else {
-        false
-    }
+    0.0 < width && width < LEAST_WIDTH
 }
 
 // The next smaller f64 of one above zero.
@@ -52,7 +42,8 @@ fn next_down(f: f64) -> f64
     f64::from_bits(f64::to_bits(f) - 1)
 }
 
-// The factor of a sloped axis: 2^order / width, stepped down while its product with the width reaches 2^order.
+// The factor of a sloped axis: 2^order / width, stepped down while its product with the width reaches 2^order. It is a `while`, since it counts
+// nothing.
 fn factor_of(low: f64, high: f64, order: u32) -> f64
     requires order_value { first_of (axis_tests low high order) ≡ 0 }
     requires nought_value { eq (width low high) nought ≡ false }
@@ -68,29 +59,27 @@ fn factor_of(low: f64, high: f64, order: u32) -> f64
 }
 
 // The axis of low, high and order, or its refusal.
-pub fn make_axis(low: f64, high: f64, order: u32) -> AxisAnswer
+#[tactic(auto, using(std::proofs::Common::tests), unfolding(rules::specs::Sums::any, rules::specs::Refusals::axis_tests, rules::specs::Axis::axis_of, rules::specs::Axis::make_axis))]
+pub fn make_axis(low: f64, high: f64, order: u32) -> Result<Axis, Refusal>
     ensures { result ≡ make_axis low high order }
 {
     if order > TOP_ORDER_2D {
-        return AxisAnswer::Refused(REFUSED_ORDER);
+        return Err(Refusal::Order);
     }
-    if unfit(low) {
-        return AxisAnswer::Refused(REFUSED_VALUE);
-    }
-    if unfit(high) {
-        return AxisAnswer::Refused(REFUSED_VALUE);
+    if unfit(low) || unfit(high) {
+        return Err(Refusal::Value);
     }
     if high < low {
-        return AxisAnswer::Refused(REFUSED_OUTSIDE);
+        return Err(Refusal::Outside);
     }
     if thin(low, high) {
-        return AxisAnswer::Refused(REFUSED_THIN);
+        return Err(Refusal::Thin);
     }
     if high - low == 0.0 {
-        return AxisAnswer::Made(Axis::Flat { low, high, order });
+        return Ok(Axis::Flat { low, high, order });
     }
     let factor = factor_of(low, high, order);
-    AxisAnswer::Made(Axis::Sloped {
+    Ok(Axis::Sloped {
         low,
         high,
         order,
@@ -99,18 +88,8 @@ pub fn make_axis(low: f64, high: f64, order: u32) -> AxisAnswer
 }
 
 // The axis of low and high at the default order, or its refusal.
-pub fn make_axis_default(low: f64, high: f64) -> AxisAnswer
+pub fn make_axis_default(low: f64, high: f64) -> Result<Axis, Refusal>
     ensures { result ≡ make_axis low high default_order }
 {
     make_axis(low, high, DEFAULT_ORDER)
-}
-
-// The number of refusal of an axis's answer, 0 for an axis.
-pub fn axis_refusal(answer: AxisAnswer) -> u32
-    ensures { result ≡ (read_axis answer).number }
-{
-    match answer {
-        AxisAnswer::Made(_) => ANSWERED,
-        AxisAnswer::Refused(number) => number,
-    }
 }

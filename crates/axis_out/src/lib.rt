@@ -9,19 +9,16 @@ ghost use Rattle.std.specs.Prelude.{◌≡◌};
 ghost use Rattle.rules.specs.Refusals.{read_cell};
 ghost use Rattle.axis_out.specs.Cells.{cell_between};
 
-use axis_cell::cell_refusal;
-use axis_make::axis_refusal;
-use rules::{ANSWERED, AxisAnswer, CellAnswer};
+use apart::apart;
+use rules::Refusal;
 
 // The cell of a value on the axis of low, high and order, or the refusal of either.
-fn cell_between(low: f64, high: f64, order: u32, value: f64) -> CellAnswer
+#[tactic(auto, unfolding(crate::specs::Cells::cell_from))]
+fn cell_between(low: f64, high: f64, order: u32, value: f64) -> Result<u64, Refusal>
     ensures { result ≡ cell_between low high order value }
 {
-    let answer = axis_make::make_axis(low, high, order);
-    let AxisAnswer::Made(made) = answer else {
-        return CellAnswer::Refused(axis_refusal(answer));
-    };
-    axis_cell::cell(made, value)
+    let axis = axis_make::make_axis(low, high, order)?;
+    axis_cell::cell(axis, value)
 }
 
 // The number of refusal of a value on the axis of low, high and order; its cell, or 0, in `cell`.
@@ -29,11 +26,7 @@ pub fn cell(low: f64, high: f64, order: u32, value: f64, cell: &mut u64) -> u32
     ensures number { result ≡ (read_cell (cell_between low high order value)).number }
     ensures value { cell.new ≡ (read_cell (cell_between low high order value)).value }
 {
-    let answer = cell_between(low, high, order, value);
-    let CellAnswer::Cell(c) = answer else {
-        *cell = 0;
-        return cell_refusal(answer);
-    };
-    *cell = c;
-    ANSWERED
+    let (number, found) = apart(cell_between(low, high, order, value), 0);
+    *cell = found;
+    number
 }

@@ -13,6 +13,17 @@ ghost use Rattle.rules.specs.Refusals.{top_depth};
 ghost use Rattle.requests.specs.Replay.{upper, lower};
 ghost use Rattle.bounds.specs.Small.{top_sum, Small};
 
+use wide::Wide;
+
+// What parts are held against: k levels, the weight T of all cells and the heaviest line M.
+#[derive(Clone, Copy)]
+pub struct Measure {
+    pub depth: u32,
+    pub all: u64,
+    pub line: u64,
+    ghost small: { Small depth all line },
+}
+
 // Whether x * s^k is at most y * r^k.
 fn at_most(k: u32, x: u64, s: u64, y: u64, r: u64) -> bool
     requires k_le_top_depth { k ≤ top_depth }
@@ -20,52 +31,47 @@ fn at_most(k: u32, x: u64, s: u64, y: u64, r: u64) -> bool
     requires y_bound { (y < 2 ^ 49) × (0 < r) × (r ≤ 200) }
     ensures { result ≡ leb (x * s ^ k) (y * r ^ k) }
 {
-    let left = wide::scaled(wide::of(x), s, k);
-    let right = wide::scaled(wide::of(y), r, k);
-    wide::at_most(left, right)
+    let right = Wide::from(y).scaled(r, k);
+    Wide::from(x).scaled(s, k).at_most(&right)
 }
 
-// Whether a part of weight w is not too heavy, of k levels, the weight t of all cells and the heaviest line m.
-fn upper(k: u32, w: u64, t: u64, m: u64) -> bool
-    requires small { Small k t m }
-    requires w_lt_top_sum { w < top_sum }
-    ensures { result ≡ upper k w t m }
-{
-    let part = 99 * w;
-    let line = 200 * m;
-    if part <= line {
-        return true;
+impl Measure {
+    // Whether a part of weight w is not too heavy.
+    fn upper(self, w: u64) -> bool
+        requires { w < top_sum }
+        ensures { result ≡ upper self.depth w self.all self.line }
+    {
+        let part = 99 * w;
+        let line = 200 * self.line;
+        if part <= line {
+            return true;
+        }
+        let over = part - line;
+        let all = 99 * self.all;
+        if over << self.depth <= all {
+            return true;
+        }
+        at_most(self.depth, over, 200, all, 101)
     }
-    let over = part - line;
-    let all = 99 * t;
-    if over << k <= all {
-        return true;
-    }
-    at_most(k, over, 200, all, 101)
-}
 
-// Whether a part of weight w is not too light.
-fn lower(k: u32, w: u64, t: u64, m: u64) -> bool
-    requires small { Small k t m }
-    requires w_lt_top_sum { w < top_sum }
-    ensures { result ≡ lower k w t m }
-{
-    let all = 101 * t;
-    let part = 101 * w + 200 * m;
-    if all <= part << k {
-        return true;
+    // Whether a part of weight w is not too light.
+    fn lower(self, w: u64) -> bool
+        requires { w < top_sum }
+        ensures { result ≡ lower self.depth w self.all self.line }
+    {
+        let all = 101 * self.all;
+        let part = 101 * w + 200 * self.line;
+        if all <= part << self.depth {
+            return true;
+        }
+        at_most(self.depth, all, 99, part, 200)
     }
-    at_most(k, all, 99, part, 200)
-}
 
-// Whether the heaviest part is not too heavy and the lightest not too light.
-pub fn keeps(k: u32, most: u64, least: u64, t: u64, m: u64) -> bool
-    requires small { Small k t m }
-    requires most_lt_top_sum { (most < top_sum) × (least < top_sum) }
-    ensures { result ≡ upper k most t m && lower k least t m }
-{
-    if upper(k, most, t, m) {
-        return lower(k, least, t, m);
+    // Whether the heaviest part is not too heavy and the lightest not too light.
+    pub fn keeps(self, most: u64, least: u64) -> bool
+        requires { (most < top_sum) × (least < top_sum) }
+        ensures { result ≡ upper self.depth most self.all self.line && lower self.depth least self.all self.line }
+    {
+        self.upper(most) && self.lower(least)
     }
-    false
 }

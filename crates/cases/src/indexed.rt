@@ -1,131 +1,122 @@
 // Calls that index all points: `order / xs / ys / indices` or `order / xs / ys / zs / indices`, where the last part is what the
 // index slice holds before; without an order, the call that needs none. On axes that are given, their low and high stand behind the order.
-// The points of a line are up to 240 numbers.
-ghost use Rattle.std.specs.Prelude.{◌<◌};
-
-use crate::calls::small;
+// A line has up to 240 numbers before the indices, and is not answered where it has more.
+use crate::answer::Answer;
+use crate::calls::Request;
 use crate::floats::float;
-use crate::sheet::{FIRST, least, place, put};
-use rules::Extent;
+use crate::lent::small;
+use arrayvec::ArrayVec;
+use rules::{Extent, Refusal};
 
-// Where the head of a sheet says where the parts of a request start.
-const XS: usize = 5;
+const MOST: usize = 240;
 
-const YS: usize = 6;
+// The coordinates of points on an axis.
+type Places = ArrayVec<f64, MOST>;
 
-const ZS: usize = 7;
-
-// Reads the sheet's first numbers as floats.
-fn floats(sheet: &[u64; 331776], points: &mut [f64; 256]) {
-    for i in 0..256usize {
-        points[i] = float(sheet[i]);
-    }
+fn places(part: &[u64]) -> Places {
+    let mut places = ArrayVec::new();
+    let _ = places.extend(part.iter().map(|number| float(*number)));
+    places
 }
 
-// The floats from the place that the head of a sheet says at `said` to before the one that it says next.
-fn floats_at<'a>(points: &'a [f64], sheet: &[u64; 331776], said: usize) -> &'a [f64]
-    requires { said < 15 }
-{
-    let end = least(place(sheet, said + 1), points.len());
-    let start = least(place(sheet, said), end);
-    &points[start..end]
-}
-
-// The low and high of axis i that a request gives, behind its order.
-fn side(points: &[f64; 256], i: usize) -> Extent
-    requires { i < 3 }
-{
+// The low and high of an axis that is given.
+fn extent(low: u64, high: u64) -> Extent {
     Extent {
-        low: points[17 + 2 * i],
-        high: points[18 + 2 * i],
+        low: float(low),
+        high: float(high),
     }
 }
 
-// The call of a request.
-fn indices_of(
-    request: u64,
-    order: u32,
-    points: &[f64; 256],
-    xs: &[f64],
-    ys: &[f64],
-    zs: &[f64],
-    indices: &mut [u64],
-) -> u32 {
-    match request {
-        1240 => knots::index_2d_default(xs, ys, indices),
-        1241 => knots::index_2d(xs, ys, order, indices),
-        1350 => knots::index_3d_default(xs, ys, zs, indices),
-        1351 => knots::index_3d(xs, ys, zs, order, indices),
-        1445 => knots::index_2d_in(xs, ys, side(points, 0), side(points, 1), order, indices),
-        _ => knots::index_3d_in(
-            xs,
-            ys,
-            zs,
-            side(points, 0),
-            side(points, 1),
-            side(points, 2),
-            order,
-            indices,
-        ),
+// The index slice: the first numbers of a part, which are more than a line has points. So what lies behind them a call leaves as it is.
+#[derive(Drop)]
+struct Indices<'a> {
+    part: &'a [u64],
+    held: ArrayVec<u64, 256>,
+}
+
+impl<'a> Indices<'a> {
+    fn of(part: &'a [u64]) -> Indices<'a> {
+        let mut held = ArrayVec::new();
+        let _ = held.extend(part.iter().copied());
+        Indices { part, held }
     }
-}
 
-// Indexes points into the numbers from `start` to before `end`.
-fn index_into(
-    request: u64,
-    order: u32,
-    points: &[f64; 256],
-    xs: &[f64],
-    ys: &[f64],
-    zs: &[f64],
-    sheet: &mut [u64],
-    start: usize,
-    end: usize,
-) -> u32 {
-    let to = least(end, sheet.len());
-    let from = least(start, to);
-    indices_of(request, order, points, xs, ys, zs, &mut sheet[from..to])
-}
-
-// Indexes the points of a sheet, into the numbers from `start` to before `end`.
-fn index_points(
-    request: u64,
-    points: &[f64; 256],
-    sheet: &mut [u64; 331776],
-    start: usize,
-    end: usize,
-) -> u32 {
-    let order = small(sheet[FIRST]);
-    let xs = floats_at(points, sheet, XS);
-    let ys = floats_at(points, sheet, YS);
-    let zs = floats_at(points, sheet, ZS);
-    index_into(request, order, points, xs, ys, zs, sheet, start, end)
-}
-
-// Answers by the number and the numbers from `start` to before `end`.
-fn put_answer(number: u32, start: usize, end: usize, sheet: &mut [u64; 331776]) {
-    put(sheet, 1, number as u64);
-    let mut i = start;
-    while i < end {
-        if i < 331776 {
-            let index = sheet[i];
-            put(sheet, 1, index);
+    fn put(&self, answer: &mut Answer<'_>) {
+        let behind = self.part.get(self.held.len()..).unwrap_or(&[]);
+        for index in self.held.as_slice().iter().chain(behind) {
+            answer.number(*index);
         }
-        i += 1;
     }
 }
 
-// index_2d, index_3d, index_2d_in and index_3d_in; the head of the sheet says at `last` where the indices start. No answer where there is no room for the points.
-pub(crate) fn index(request: u64, last: usize, sheet: &mut [u64; 331776])
-    requires { last < 15 }
-{
-    let start = place(sheet, last);
-    let end = place(sheet, last + 1);
-    if 256 < start {
+// How many numbers parts have.
+fn count_of(parts: &[&[u64]]) -> usize {
+    parts
+        .iter()
+        .fold(0usize, |sum, part| sum.saturating_add(part.len()))
+}
+
+// index_2d and index_3d; index_2d_in and index_3d_in, which give the axes
+pub(crate) fn call(request: Request<'_>, answer: &mut Answer<'_>) {
+    let [before @ .., part] = request.parts else {
+        return;
+    };
+    if MOST < count_of(before) {
         return;
     }
-    let mut points = [0.0f64; 256];
-    floats(sheet, &mut points);
-    let number = index_points(request, &points, sheet, start, end);
-    put_answer(number, start, end, sheet);
+    let mut indices = Indices::of(part);
+    let Some(refused) = index(request.name, before, indices.held.as_mut_slice()) else {
+        return;
+    };
+    answer.refusal(refused);
+    indices.put(answer);
+}
+
+// Indexes the points of a call and the parts before its index slice; none where the call takes no such parts.
+fn index(name: &[u8], before: &[&[u64]], indices: &mut [u64]) -> Option<Result<(), Refusal>> {
+    match before {
+        [numbers, xs, ys] => {
+            let xs = places(xs);
+            let ys = places(ys);
+            index_on(name, numbers, &[xs.as_slice(), ys.as_slice()], indices)
+        }
+        [numbers, xs, ys, zs] => {
+            let xs = places(xs);
+            let ys = places(ys);
+            let zs = places(zs);
+            let axes = [xs.as_slice(), ys.as_slice(), zs.as_slice()];
+            index_on(name, numbers, &axes, indices)
+        }
+        _ => None,
+    }
+}
+
+// Indexes points by their coordinates on each axis.
+fn index_on(
+    name: &[u8],
+    numbers: &[u64],
+    axes: &[&[f64]],
+    indices: &mut [u64],
+) -> Option<Result<(), Refusal>> {
+    let answer = match (name, numbers, axes) {
+        (b"index_2d", [], [xs, ys]) => knots::index_2d_default(xs, ys, indices),
+        (b"index_2d", [order], [xs, ys]) => knots::index_2d(xs, ys, small(*order), indices),
+        (b"index_3d", [], [xs, ys, zs]) => knots::index_3d_default(xs, ys, zs, indices),
+        (b"index_3d", [order], [xs, ys, zs]) => {
+            knots::index_3d(xs, ys, zs, small(*order), indices)
+        }
+        (b"index_2d_in", [order, x_low, x_high, y_low, y_high], [xs, ys]) => {
+            let x = extent(*x_low, *x_high);
+            let y = extent(*y_low, *y_high);
+            knots::index_2d_in(xs, ys, x, y, small(*order), indices)
+        }
+        (b"index_3d_in", [order, x_low, x_high, y_low, y_high, z_low, z_high], [xs, ys, zs]) => {
+            let x = extent(*x_low, *x_high);
+            let y = extent(*y_low, *y_high);
+            let z = extent(*z_low, *z_high);
+            knots::index_3d_in(xs, ys, zs, x, y, z, small(*order), indices)
+        }
+        _ => return None,
+    };
+    Some(answer)
 }

@@ -1,40 +1,48 @@
-// The numbers of a case behind its call's name: the parts of the request, each ended by `/` or the last by `=`, and the answer.
-ghost use Rattle.std.specs.Prelude.{◌<◌, ◌≤◌, length};
+// The words of a line, as the tokens of `text` part them.
+ghost use Rattle.std.specs.Prelude.{◌-◌, length};
+ghost use Rattle.std.specs.Iterator.{at_most};
 
-use crate::numbers::{number, star_of, whole};
-use crate::sheet::{begin, end_part, put};
-use crate::tokens::{end_of, number_in, start_of};
+use text::Token;
 
-// Takes a number on the sheet, such as `12` or, for eight of them, `8*12`; whether it is one.
-fn take_number(word: &[u8], sheet: &mut [u64; 331776]) -> bool {
-    let star = star_of(word);
-    if star < word.len() {
-        return put(sheet, whole(&word[..star]), number(&word[star + 1..]));
-    }
-    put(sheet, 1, number(word))
+// A word, and where it starts in its line.
+#[derive(Clone, Copy)]
+pub(crate) struct Word<'a> {
+    pub(crate) start: usize,
+    pub(crate) text: &'a [u8],
 }
 
-// Takes a word on the sheet; whether it can be read.
-fn take(word: &[u8], sheet: &mut [u64; 331776]) -> bool {
-    match number_in(b"/ =", word) {
-        1 => end_part(sheet, false),
-        2 => end_part(sheet, true),
-        _ => take_number(word, sheet),
+// A word that cannot be read where it stands, by where it starts in its line.
+#[derive(Clone, Copy, Debug, PartialEq, Eq)]
+pub(crate) struct Unread {
+    pub(crate) start: usize,
+}
+
+// The words of a line from a place on.
+#[derive(Clone, Copy)]
+pub(crate) struct Words<'a> {
+    line: &'a [u8],
+    at: usize,
+}
+
+impl<'a> Words<'a> {
+    pub(crate) fn of(line: &'a [u8]) -> Words<'a> {
+        Words { line, at: 0 }
     }
 }
 
-// Reads the words from `from` on; the place of the first that cannot be read, or the line's end.
-pub(crate) fn read(line: &[u8], from: usize, sheet: &mut [u64; 331776]) -> usize
-    requires { from ≤ length line.now }
-{
-    begin(sheet);
-    let mut at = start_of(line, from);
-    while at < line.len() {
-        let end = end_of(line, at);
-        if !take(&line[at..end], sheet) {
-            return at;
-        }
-        at = start_of(line, end);
+impl<'a> Iterator for Words<'a> {
+    type Item = Word<'a>;
+
+    ghost remaining = { λ s. at_most (length s.line.now - s.at) };
+
+    fn next(&mut self) -> Option<Word<'a>> {
+        let Token::Word(start, end) = text::next_token(self.line, self.at) else {
+            return None;
+        };
+        self.at = end;
+        Some(Word {
+            start,
+            text: &self.line[start..end],
+        })
     }
-    at
 }

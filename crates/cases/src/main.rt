@@ -4,44 +4,36 @@
 //     rcb_2d 4 1 1 / 10 20 30 40 / 7 / 4*7 = 0 / 0 / 4*1
 //
 // An answer is the number of refusal, the values, and what the slices hold after the call. `numbers` says how a number is written and
-// `line` how a line is read; `calls` has the calls. For each file that the program is started with it prints how many lines agree, and
+// `sheet` how a line is read; `calls` has the calls. For each file that the program is started with it prints how many lines agree, and
 // each line that differs or cannot be read. A new case, or a file of cases, costs no proof.
 #![tactic(auto)]
 
 mod along;
+mod answer;
 mod axes;
 mod calls;
 mod curves;
 mod files;
 mod floats;
-mod grids;
+mod halvings;
 mod indexed;
+mod lent;
 mod line;
 mod nights;
 mod numbers;
+mod output;
 mod sheet;
-mod tokens;
 mod verdicts;
 
 use std::rt::HostRuntime;
 use words::argument;
 
-// Runs the file that argument i names; whether there is such an argument.
-fn run_argument(rt: HostRuntime, i: usize) -> bool {
-    let mut name = io::buffer();
-    match argument(rt, i, &mut name) {
-        Some(size) => {
-            files::run(rt, &name[..size]);
-            true
-        }
-        None => false,
-    }
-}
-
 fn main(rt: HostRuntime) {
     for i in 1..usize::MAX {
-        if !run_argument(rt, i) {
+        let mut name = io::buffer();
+        let Some(size) = argument(rt, i, &mut name) else {
             return;
-        }
+        };
+        files::run(rt, &name[..size]);
     }
 }

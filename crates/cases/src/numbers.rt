@@ -1,65 +1,81 @@
 // A word of a case as a number: a whole number; a decimal with a point, `nan`, `inf` or `-inf` as the bits of an f64; `uncut`, the
 // split of a node that is not cut; or `any`, which stands for any number of an answer.
-ghost use Rattle.std.specs.Prelude.{◌≤◌, length};
-
 use crate::floats::{INFINITE, NAN, NEGATIVE, bits};
-use crate::tokens::number_in;
-use decimals::Decimal;
-use wholes::Whole;
+use arrayvec::CapacityError;
+use decimals::NotDecimal;
+use wholes::NotWhole;
 
-// What `any` is read as; no case can ask for this number itself.
+// What `any` is read as. It is a number, since the library is lent the numbers of a request as a slice; no case can ask for it itself.
 pub(crate) const ANY: u64 = 18446744073709551614;
 
-// What a word is read as that is no number: the bits of a NaN that none is read as.
-pub(crate) const UNKNOWN: u64 = 0xfff8_0000_0000_0001;
+// The bits of a NaN that none is read as; no case can ask for this number either.
+const OTHER_NAN: u64 = 0xfff8_0000_0000_0001;
 
-// Where the first `*` of a word stands, or its end.
-pub(crate) fn star_of(word: &[u8]) -> usize
-    ensures { result ≤ length word.now }
-{
-    let mut i: usize = 0;
-    while i < word.len() {
-        if word[i] == b'*' {
-            return i;
-        }
-        i += 1;
+// A word is none that may stand there.
+#[derive(Clone, Copy, Debug, PartialEq, Eq)]
+pub(crate) struct Odd;
+
+impl From<NotWhole> for Odd {
+    fn from(_: NotWhole) -> Odd {
+        Odd
     }
-    i
+}
+
+impl From<NotDecimal> for Odd {
+    fn from(_: NotDecimal) -> Odd {
+        Odd
+    }
+}
+
+impl<T: Drop> From<CapacityError<T>> for Odd {
+    fn from(_: CapacityError<T>) -> Odd {
+        Odd
+    }
+}
+
+// A number that stands as many times.
+#[derive(Clone, Copy)]
+pub(crate) struct Repeated {
+    pub(crate) times: u64,
+    pub(crate) number: u64,
+}
+
+impl Repeated {
+    // A number such as `12` or, for eight of them, `8*12`.
+    pub(crate) fn of(word: &[u8]) -> Result<Repeated, Odd> {
+        let Some(star) = word.iter().position(|b| *b == b'*') else {
+            let number = number_of(word)?;
+            return Ok(Repeated { times: 1, number });
+        };
+        Ok(Repeated {
+            times: whole(&word[..star])?,
+            number: number_of(&word[star + 1..])?,
+        })
+    }
 }
 
 // A whole number.
-pub(crate) fn whole(word: &[u8]) -> u64 {
-    let met = wholes::whole_of(word);
-    let Whole::Value(n) = met else {
-        return UNKNOWN;
-    };
-    if n == ANY {
-        return UNKNOWN;
+fn whole(word: &[u8]) -> Result<u64, Odd> {
+    match wholes::whole_of(word)? {
+        ANY | OTHER_NAN => Err(Odd),
+        number => Ok(number),
     }
-    n
 }
 
 // The bits of a decimal.
-fn decimal(word: &[u8]) -> u64 {
-    let met = decimals::decimal_of(word);
-    let Decimal::Value(x) = met else {
-        return UNKNOWN;
-    };
-    bits(x)
+fn decimal(word: &[u8]) -> Result<u64, Odd> {
+    let value = decimals::decimal_of(word)?;
+    Ok(bits(value))
 }
 
 // The number that a word stands for.
-pub(crate) fn number(word: &[u8]) -> u64 {
-    let n = whole(word);
-    if n != UNKNOWN {
-        return n;
-    }
-    match number_in(b"any uncut nan inf -inf", word) {
-        1 => ANY,
-        2 => rules::UNCUT as u64,
-        3 => NAN,
-        4 => INFINITE,
-        5 => NEGATIVE,
-        _ => decimal(word),
+fn number_of(word: &[u8]) -> Result<u64, Odd> {
+    match word {
+        b"any" => Ok(ANY),
+        b"uncut" => Ok(u64::from(rules::UNCUT)),
+        b"nan" => Ok(NAN),
+        b"inf" => Ok(INFINITE),
+        b"-inf" => Ok(NEGATIVE),
+        _ => whole(word).or_else(|_| decimal(word)),
     }
 }

@@ -1,87 +1,97 @@
-// A case on a sheet of numbers: in the head where things stand, then the numbers of the line, which are the parts of the request one
-// after the other and what is wanted, and behind them the answer.
-ghost use Rattle.std.specs.Prelude.{◌<◌, ◌≤◌};
+// A case on a sheet of numbers: those of the parts of its request one after the other, and behind them what is wanted.
+ghost use Rattle.std.specs.Prelude.{◌≤◌};
 
-use crate::numbers::UNKNOWN;
+use crate::line::{Unread, Words};
+use crate::numbers::{Odd, Repeated};
+use arrayvec::ArrayVec;
 
-// The head. At WANTED it says where what is wanted starts (0 before `=`), then where the answer starts, where the next number goes, how
-// many parts have ended and, from FIRST_PART on, where each part starts.
-pub(crate) const WANTED: usize = 0;
+// How many numbers a case has, with those of the answer. An array is lent for them: an `ArrayVec` of as many is copied as it is made, and its
+// copies have no room on the stack.
+pub(crate) const ROOM: usize = 331760;
 
-pub(crate) const ANSWERED: usize = 1;
+// How many parts a request has.
+const MOST_PARTS: usize = 8;
 
-pub(crate) const NEXT: usize = 2;
-
-pub(crate) const PARTS: usize = 3;
-
-pub(crate) const FIRST_PART: usize = 4;
-
-// Where the numbers start: 16, as they do on a sheet that begins.
-pub(crate) const FIRST: usize = 16;
-
-// Begins a sheet: no number, and the first part starts.
-pub(crate) fn begin(sheet: &mut [u64; 331776]) {
-    sheet[WANTED] = 0;
-    sheet[NEXT] = 16;
-    sheet[PARTS] = 0;
-    sheet[FIRST_PART] = 16;
+// A case: the parts of its request, what is wanted, and how many numbers of an answer there is room for.
+#[derive(Drop)]
+pub(crate) struct Case<'a> {
+    pub(crate) parts: ArrayVec<&'a [u64], MOST_PARTS>,
+    pub(crate) wanted: &'a [u64],
+    pub(crate) room: usize,
 }
 
-// Puts a number on the sheet as many times; whether it is one and there is room.
-pub(crate) fn put(sheet: &mut [u64; 331776], times: u64, number: u64) -> bool {
-    let mut left = times;
-    while 0 < left {
-        let next = sheet[NEXT];
-        if 331776 <= next {
-            return false;
+// How many numbers have been read, where each part of the request ends, and whether the request has.
+#[derive(Drop)]
+struct Reading {
+    count: usize,
+    ends: ArrayVec<usize, MOST_PARTS>,
+    is_asked: bool,
+    ghost fits: { count ≤ 331760 },
+}
+
+// Reads the words of a case behind the name of its call: the parts of the request, each ended by `/` or the last by `=`, and what is
+// wanted. No case where the request does not end.
+pub(crate) fn read<'a>(
+    words: Words<'_>,
+    numbers: &'a mut [u64; ROOM],
+) -> Result<Option<Case<'a>>, Unread> {
+    let mut reading = Reading {
+        count: 0,
+        ends: ArrayVec::new(),
+        is_asked: false,
+    };
+    for word in words {
+        if reading.take(word.text, numbers).is_err() {
+            return Err(Unread { start: word.start });
         }
-        sheet[next as usize] = number;
-        sheet[NEXT] = next + 1;
-        left -= 1;
     }
-    number != UNKNOWN
+    Ok(reading.case(numbers))
 }
 
-// Ends a part of the request, and with `last` the whole of it; whether that may stand there. `/` parts an answer for the eye alone.
-pub(crate) fn end_part(sheet: &mut [u64; 331776], last: bool) -> bool {
-    if sheet[WANTED] != 0 {
-        return !last;
+impl Reading {
+    // Takes a word. `/` parts what is wanted for the eye alone.
+    fn take(&mut self, word: &[u8], numbers: &mut [u64; ROOM]) -> Result<(), Odd> {
+        match word {
+            b"/" if self.is_asked => Ok(()),
+            b"/" => self.end_part(),
+            b"=" if self.is_asked => Err(Odd),
+            b"=" => {
+                self.is_asked = true;
+                self.end_part()
+            }
+            _ => self.put(Repeated::of(word)?, numbers),
+        }
     }
-    let next = sheet[NEXT];
-    if last {
-        sheet[WANTED] = next;
-    }
-    let parts = sheet[PARTS];
-    if 8 <= parts {
-        return false;
-    }
-    sheet[PARTS] = parts + 1;
-    sheet[parts as usize + 5] = next;
-    true
-}
 
-// The lesser of two places.
-pub(crate) fn least(a: usize, b: usize) -> usize
-    ensures { (result ≤ a) × (result ≤ b) }
-{
-    if a < b { a } else { b }
-}
-
-// The numbers from the place that the head says at `said` to before the one that it says next.
-pub(crate) fn numbers_at(sheet: &[u64], said: usize) -> &[u64]
-    requires { said < 15 }
-{
-    if sheet.len() < 16 {
-        return sheet;
+    fn end_part(&mut self) -> Result<(), Odd> {
+        self.ends.try_push(self.count)?;
+        Ok(())
     }
-    let end = least(sheet[said + 1] as usize, sheet.len());
-    let start = least(sheet[said] as usize, end);
-    &sheet[start..end]
-}
 
-// The place that the head says at `said`.
-pub(crate) fn place(sheet: &[u64; 331776], said: usize) -> usize
-    requires { said < 16 }
-{
-    sheet[said] as usize
+    fn put(&mut self, repeated: Repeated, numbers: &mut [u64; ROOM]) -> Result<(), Odd> {
+        let times = repeated.times as usize;
+        let free = numbers[self.count..].get_mut(..times).ok_or(Odd)?;
+        free.fill(repeated.number);
+        self.count += times;
+        Ok(())
+    }
+
+    // The case that has been read; none where its request has not ended.
+    fn case<'a>(&self, numbers: &'a [u64; ROOM]) -> Option<Case<'a>> {
+        if !self.is_asked {
+            return None;
+        }
+        let mut parts = ArrayVec::new();
+        let mut start = 0;
+        for end in &self.ends {
+            let part = numbers.get(start..*end).unwrap_or(&[]);
+            let _ = parts.try_push(part);
+            start = *end;
+        }
+        Some(Case {
+            parts,
+            wanted: numbers.get(start..self.count).unwrap_or(&[]),
+            room: ROOM - self.count,
+        })
+    }
 }

@@ -1,102 +1,78 @@
-// What a line comes to: its case agrees, differs or cannot be read, or it has none. Says so where it does not agree.
-use crate::numbers::ANY;
-use crate::sheet::{ANSWERED, WANTED, numbers_at};
-use crate::tokens::{end_of, start_of};
-use crate::{calls, line};
+// What a line comes to: its case agrees, differs or cannot be read, or it has none; and how many lines come to what.
+use crate::answer::{Answer, First};
+use crate::calls::{Request, call};
+use crate::line::{Unread, Words};
+use crate::output::say;
+use crate::sheet::{ROOM, read};
+use std::fmt;
 
-// The verdicts. They are added up for a file, which has fewer than 2097152 lines, so that the sum tells how many there are of each.
-const NO_CASE: u64 = 0;
-
-const AGREES: u64 = 1;
-
-pub(crate) const DIFFERS: u64 = 2097152;
-
-pub(crate) const UNREAD: u64 = 4398046511104;
-
-// Prints a text with up to three numbers, each in the place of a `%`.
-pub(crate) fn say(text: &[u8], first: u64, second: u64, third: u64) {
-    let mut a = first;
-    let mut b = second;
-    let mut i: usize = 0;
-    while i < text.len() {
-        let end = i + 1;
-        if text[i] == b'%' {
-            io::print_decimal(1, a);
-            a = b;
-            b = third;
-        } else {
-            io::write_all(1, &text[i..end]);
-        }
-        i = end;
-    }
+#[derive(Drop)]
+pub(crate) enum Verdict {
+    Agrees,
+    Differs(First),
 }
 
-// Whether the numbers answered are those that were wanted.
-fn agrees(answered: &[u64], wanted: &[u64]) -> bool {
-    if answered.len() != wanted.len() {
-        return false;
+// Carries out a line's call and holds the answer against the line's; none where the line has no case.
+pub(crate) fn verdict_of(line: &[u8], sheet: &mut [u64; ROOM]) -> Result<Option<Verdict>, Unread> {
+    let mut words = Words::of(line);
+    let Some(name) = words.next() else {
+        return Ok(None);
+    };
+    let unread = Unread { start: name.start };
+    let case = read(words, sheet)?.ok_or(unread)?;
+    let mut answer = Answer::of(&case);
+    let request = Request {
+        name: name.text,
+        parts: case.parts.as_slice(),
+    };
+    call(request, &mut answer);
+    if answer.is_empty() {
+        return Err(unread);
     }
-    let mut i: usize = 0;
-    while i < wanted.len() {
-        if wanted[i] != ANY {
-            if answered[i] != wanted[i] {
-                return false;
+    if answer.agrees() {
+        return Ok(Some(Verdict::Agrees));
+    }
+    Ok(Some(Verdict::Differs(answer.first())))
+}
+
+// How many lines of a file came to what.
+#[derive(Clone, Copy, Debug, Default)]
+pub(crate) struct Tally {
+    lines: u64,
+    agree: u64,
+    differ: u64,
+    unread: u64,
+}
+
+impl Tally {
+    // Counts the next line, and says where it does not agree.
+    pub(crate) fn add(&mut self, line: &[u8], verdict: Result<Option<Verdict>, Unread>) {
+        self.lines = self.lines.saturating_add(1);
+        let number = self.lines;
+        match verdict {
+            Ok(None) => {}
+            Ok(Some(Verdict::Agrees)) => self.agree = self.agree.saturating_add(1),
+            Ok(Some(Verdict::Differs(first))) => {
+                self.differ = self.differ.saturating_add(1);
+                say(format_args!("  line {number} differs, the answer is{first}"));
+            }
+            Err(Unread { start }) => {
+                self.unread = self.unread.saturating_add(1);
+                let column = text::place_at(line, start).column;
+                say(format_args!("  line {number} cannot be read at column {column}"));
             }
         }
-        i += 1;
     }
-    true
 }
 
-// Says that the case of a line differs, with up to 32 numbers of the answer.
-fn differs(number: u64, answered: &[u64]) -> u64 {
-    say(b"  line % differs, the answer is", number, 0, 0);
-    let mut i: usize = 0;
-    while i < answered.len() {
-        if i < 32 {
-            say(b" %", answered[i], 0, 0);
-        }
-        i += 1;
+impl fmt::Display for Tally {
+    fn fmt<W: fmt::Write>(&self, f: &mut fmt::Formatter<W>) -> fmt::Result {
+        let Tally {
+            agree,
+            differ,
+            unread,
+            ..
+        } = *self;
+        write!(f, "{agree} agree, {differ} differ, {unread} cannot be read")
     }
-    say(b"\n", 0, 0, 0);
-    DIFFERS
-}
-
-// Says that a line cannot be read, by the place of the word where that begins.
-fn unread(number: u64, line: &[u8], place: usize) -> u64 {
-    let here = text::place_at(line, place);
-    say(
-        b"  line % cannot be read at column %\n",
-        number,
-        here.column as u64,
-        0,
-    );
-    UNREAD
-}
-
-// The verdict on a call that was carried out; a request that fits no call is not answered.
-fn of_call(number: u64, line: &[u8], start: usize, sheet: &[u64]) -> u64 {
-    let answered = numbers_at(sheet, ANSWERED);
-    if answered.len() == 0 {
-        return unread(number, line, start);
-    }
-    if agrees(answered, numbers_at(sheet, WANTED)) {
-        return AGREES;
-    }
-    differs(number, answered)
-}
-
-// Carries out a line's call and holds the answer against the line's.
-pub(crate) fn of_line(line: &[u8], number: u64, sheet: &mut [u64; 331776]) -> u64 {
-    let start = start_of(line, 0);
-    if line.len() <= start {
-        return NO_CASE;
-    }
-    let end = end_of(line, start);
-    let odd = line::read(line, end, sheet);
-    if odd < line.len() {
-        return unread(number, line, odd);
-    }
-    calls::call(&line[start..end], sheet);
-    of_call(number, line, start, sheet)
 }

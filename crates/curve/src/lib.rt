@@ -4,9 +4,10 @@
 // level down: of its state and the quadrant that it meets it writes a digit of the index, and goes on in the next state (rules' Curve).
 //
 //   spread                    deposit, and the z-order of a cell
+//   cell_tests                whether an encoder takes a cell
 //   encoding_2d               six levels at once, by the table of `curve_table`
 //   encoding_3d               level by level, by the table of 01
-//   decoding_2d, decoding_3d  level by level, by the inverses of the table's rows
+//   decoding                  level by level, by the inverses of the table's rows
 //
 // A caller may rely on (crate curve_laws): decode after encode gives the cell and encode after decode the index (Demand2, `decode_encode_2d`
 // and so on); no two cells share an index (`no_two_cells_share_an_index`); an index is below 2^(d * order), a coordinate below 2^order
@@ -14,8 +15,7 @@
 // asks anything of its caller.
 #![tactic(auto)]
 
-pub use decoding_2d::{decode_2d, decode_2d_default};
-pub use decoding_3d::{decode_3d, decode_3d_default};
+pub use decoding::{decode_2d, decode_2d_default, decode_3d, decode_3d_default};
 pub use encoding_2d::{encode_2d, encode_2d_default};
 pub use encoding_3d::{encode_3d, encode_3d_default};
 pub use spread::deposit;

@@ -1,23 +1,18 @@
 // cells: reads a list of indices, which may say its order, dimension and box, and prints their cells.
 use crate::cells;
-use console::faults::say_all;
-use console::files::Size;
-use console::lines::{first_line, line_end};
-use console::{faults, files};
-use fields::separator_of;
+use crate::setting::Setting;
+use console::faults::{Faults, Refused};
+use console::files;
+use console::source::Source;
+use knot_rows::sides;
+use knot_rows::sides::{Side, Sides};
+use messages::{Failure, Outcome, failed, say};
+use rules::Refusal;
 use std::rt::HostRuntime;
-use whole_files::noted;
-use whole_files::noted::headed;
-use whole_files::row::Limit;
-use words::status::FAILED;
-use words::{number_of, same, word};
-
-// The order of a list, and whether it is in 3D.
-#[derive(Clone, Copy)]
-pub struct Setting {
-    pub order: u32,
-    pub solid: bool,
-}
+use whole_files::noted::Note;
+use whole_files::numbers::{Limit, Numbers};
+use whole_files::{list, noted};
+use words::Words;
 
 // The order of a list that says none: such lists were stored while it was the default.
 const ORDER_BEFORE: u32 = 12;
@@ -27,168 +22,83 @@ const ORDER: usize = 3;
 
 const DIMENSION: usize = 4;
 
+pub(crate) fn command(rt: HostRuntime, words: &Words, room: &mut [u8; files::ROOM]) -> Outcome {
+    let path = words.word(2);
+    let source = Source::of(path, files::read(rt, path, room)?);
+    match noted::note_of(source)? {
+        Some(note) => of_noted(rt, words, source, &note),
+        None => of_unnoted(rt, words, source),
+    }
+}
+
+// Prints the cells of a list that says what it is: the first field of a line is an index.
+fn of_noted(rt: HostRuntime, words: &Words, source: Source<'_>, note: &Note<'_>) -> Outcome {
+    if differs(words.word(ORDER), note.order())
+        || differs(words.word(DIMENSION), note.dimension())
+    {
+        return Err(failed(
+            source.path,
+            "its first line says another order or dimension",
+        ));
+    }
+    let order = note.order_number();
+    let solid = note.dimension() == b"3d".as_slice();
+    let setting = setting_of(source.path, order, solid)?;
+    let sides = sides::of_words(&note.words, noted::BOX, setting.dimension());
+    let sides = sides.unwrap_or(Sides::new());
+    print_cells(rt, source, Some(1), setting, sides.as_slice())
+}
+
 // Whether a command asks for another thing than the list says.
 fn differs(asked: &[u8], said: &[u8]) -> bool {
-    if asked.len() == 0 {
-        return false;
-    }
-    !same(asked, said)
+    !asked.is_empty() && asked != said
 }
 
-// Whether a command contradicts what the list says.
-fn contradicts(line: &[u8], note: &[u8]) -> bool {
-    if !noted::known(note) {
-        return false;
-    }
-    if differs(word(line, ORDER), word(note, noted::ORDER)) {
-        return true;
-    }
-    differs(word(line, DIMENSION), word(note, noted::DIMENSION))
-}
-
-// Whether neither the command nor the list says the order.
-fn unsaid(line: &[u8], note: &[u8]) -> bool {
-    if word(line, ORDER).len() != 0 {
-        return false;
-    }
-    !noted::known(note)
-}
-
-// The order that the command names, or that the list says, or that of lists that say none.
-fn order_of(line: &[u8], note: &[u8]) -> u32 {
-    if unsaid(line, note) {
-        return ORDER_BEFORE;
-    }
-    if word(line, ORDER).len() != 0 {
-        return number_of(word(line, ORDER));
-    }
-    number_of(word(note, noted::ORDER))
-}
-
-// Says at which order a list is read that says none.
-fn say_order(path: &[u8]) {
-    faults::begin(path);
-    faults::write(b" says no order and is read at order ");
-    faults::write_number(ORDER_BEFORE as usize);
-    faults::write(b", the default when such lists were stored; name another by 'order N'\n");
-}
-
-// Whether the command or the list says 3D.
-fn solid(line: &[u8], note: &[u8]) -> bool {
-    if same(word(line, DIMENSION), b"3d") {
-        return true;
-    }
-    if noted::known(note) {
-        return same(word(note, noted::DIMENSION), b"3d");
-    }
-    false
-}
-
-// The largest index of an order that is accepted, with the number that refuses a larger one. At order 32 in 2D the number of cells has no
-// bit left, and one less is the largest u64.
-fn limit_of(setting: Setting) -> Limit {
-    let order = setting.order % 64;
-    let square = (1u64 << order) << order;
-    let cells = if setting.solid {
-        square << order
+// Prints the cells of a list that says nothing of itself: each field is an index, or the first of a line where there is a header.
+fn of_unnoted(rt: HostRuntime, words: &Words, source: Source<'_>) -> Outcome {
+    let mut order = ORDER_BEFORE;
+    if words.is_empty(ORDER) {
+        say(
+            source.path,
+            format_args!(
+                "says no order and is read at order {order}, the default when such lists were stored; name another by 'order N'"
+            ),
+        );
     } else {
-        square
-    };
-    Limit {
-        most: std::num::wrapping_sub_u64(cells, 1),
-        refusal: rules::REFUSED_INDEX,
+        order = words.number_or_refused(ORDER);
+    }
+    let setting = setting_of(source.path, order, words.is(DIMENSION, "3d"))?;
+    print_cells(rt, source, None, setting, &[])
+}
+
+fn setting_of(path: &[u8], order: u32, solid: bool) -> Result<Setting, Failure> {
+    match Setting::of(order, solid) {
+        Some(setting) => Ok(setting),
+        None => Err(failed(path, Refused(Refusal::Order))),
     }
 }
 
-// Reads the indices from `first` on, all on a line or the first `most`, and prints their cells.
-fn decode(
+// Prints the cells of the first so many indices of each line where not all are asked for, of one where there is a header.
+fn print_cells(
     rt: HostRuntime,
-    path: &[u8],
-    text: &[u8],
-    first: usize,
-    most: usize,
+    source: Source<'_>,
+    most: Option<usize>,
     setting: Setting,
-    note: &[u8],
-) -> u8 {
-    let mut indices = [0u64; 65536];
-    let mut kept = [0usize; 61];
-    let separator = separator_of(text);
-    let count = whole_files::list::read(
-        text,
-        first,
-        separator,
-        limit_of(setting),
-        most,
-        &mut indices,
-        &mut kept,
-    );
-    if kept[0] != 0 {
-        say_all(path, text, separator, &kept);
-        return FAILED;
-    }
-    cells::print(rt, &indices, count, setting, note)
-}
-
-// The highest order.
-fn top(solid: bool) -> u32 {
-    if solid {
-        return rules::TOP_ORDER_3D;
-    }
-    rules::TOP_ORDER_2D
-}
-
-// Decodes a list: the first column where its first line or a header says what it holds, else every field.
-fn decode_list(rt: HostRuntime, path: &[u8], text: &[u8], setting: Setting, note: &[u8]) -> u8 {
-    if top(setting.solid) < setting.order {
-        faults::refused(path, rules::REFUSED_ORDER);
-        return FAILED;
-    }
-    let separator = separator_of(text);
-    let first = first_line(text, 0, separator);
-    if headed(text, first, separator) {
-        return decode(rt, path, text, line_end(text, first), 1, setting, note);
-    }
-    if noted::known(note) {
-        return decode(rt, path, text, first, 1, setting, note);
-    }
-    decode(rt, path, text, first, text.len(), setting, note)
-}
-
-// Decodes a text as the command and the text itself say.
-fn decode_text(rt: HostRuntime, line: &[u8], text: &[u8], note: &[u8]) -> u8 {
-    let path = word(line, 2);
-    if noted::of_parts(path, note) {
-        return FAILED;
-    }
-    if contradicts(line, note) {
-        faults::of(path, b"its first line says another order or dimension");
-        return FAILED;
-    }
-    if unsaid(line, note) {
-        say_order(path);
-    }
-    let setting = Setting {
-        order: order_of(line, note),
-        solid: solid(line, note),
+    sides: &[Side<'_>],
+) -> Outcome {
+    let head = source.first_line(0);
+    let (first, most) = if noted::is_headed(source, head) {
+        (source.line(head).end(), Some(1))
+    } else {
+        (head, most)
     };
-    decode_list(rt, path, text, setting, note)
-}
-
-fn decode_by(rt: HostRuntime, line: &[u8], text: &[u8], note: &[u8; 4096]) -> u8 {
-    decode_text(rt, line, text, note)
-}
-
-// Decodes a text as the command and its first line say.
-fn decode_noted(rt: HostRuntime, line: &[u8], text: &[u8]) -> u8 {
-    let mut note = [0u8; 4096];
-    noted::read(text, &mut note);
-    decode_by(rt, line, text, &note)
-}
-
-pub(crate) fn command(rt: HostRuntime, line: &[u8], bytes: &mut [u8; 4194304]) -> u8 {
-    let read = files::read(rt, word(line, 2), bytes);
-    let Size::Bytes(size) = read else {
-        return FAILED;
+    let limit = Limit {
+        most: setting.last_index(),
+        refusal: Refusal::Index,
     };
-    decode_noted(rt, line, files::text(bytes, size))
+    let mut indices = Numbers::new();
+    let mut faults = Faults::none();
+    list::read(source.lines(first), limit, most, &mut indices, &mut faults);
+    faults.say_all(source)?;
+    cells::print(rt, indices.as_slice(), setting, sides)
 }

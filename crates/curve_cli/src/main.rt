@@ -8,41 +8,42 @@ mod cells;
 mod list;
 mod picture;
 mod ranges;
+mod setting;
 
+use console::files;
+use messages::{Outcome, misused};
+use printing::Output;
+use rules::Refusal;
+use std::fmt::Write;
 use std::rt::HostRuntime;
-use words::place;
-use words::status::{DONE, FAILED, misused};
+use words::Words;
+use words::status::report;
 
-// Writes the numbers of refusal.
-fn refusals(rt: HostRuntime) -> u8 {
-    match console::meanings::numbers(rt) {
-        Ok(()) => DONE,
-        Err(error) => {
-            printing::say_lost(error);
-            FAILED
+// Prints the numbers of refusal.
+fn refusals(rt: HostRuntime) -> Outcome {
+    let mut out = Output::of(rt);
+    writeln!(out, "0  answered")?;
+    for number in 1..=u32::from(Refusal::Cell) {
+        if let Ok(refusal) = Refusal::try_from(number) {
+            writeln!(out, "{number}  {refusal}")?;
         }
     }
+    out.finish()
 }
 
 // Carries out a command.
-fn carry_out(rt: HostRuntime, line: &[u8], bytes: &mut [u8; 4194304]) -> u8 {
-    let which = place(line, 1, b"cells\npicture\nrefusals\n");
-    match which {
-        0 => list::command(rt, line, bytes),
-        1 => picture::command(rt, line),
-        2 => refusals(rt),
-        _ => misused(),
+fn carry_out(rt: HostRuntime, words: &Words, room: &mut [u8; files::ROOM]) -> Outcome {
+    match words.word(1) {
+        b"cells" => list::command(rt, words, room),
+        b"picture" => picture::command(rt, words),
+        b"refusals" => refusals(rt),
+        _ => Err(misused()),
     }
 }
 
-fn carry_out_in(rt: HostRuntime, line: &[u8; 4096], bytes: &mut [u8; 4194304]) {
-    let status = carry_out(rt, line, bytes);
-    words::status::report(line, status);
-}
-
 fn main(rt: HostRuntime) {
-    let mut line = [0u8; 4096];
-    words::arguments(rt, &mut line);
-    let mut bytes = [0u8; 4194304];
-    carry_out_in(rt, &line, &mut bytes);
+    let words = Words::of_program(rt);
+    let mut room = [0u8; files::ROOM];
+    let outcome = carry_out(rt, &words, &mut room);
+    report(&words, outcome);
 }

@@ -1,252 +1,238 @@
 // A picture of the curve through its cells, as SVG, its hue going round once from the first index to the last: with the numbers of columns and
 // lines, marks on the first and the last cell, and at low orders the index of each cell. What is drawn is in tenths of a pixel.
-use console::faults;
-use drawing::ends::Place;
+ghost use Rattle.std.specs.Prelude.{◌≤◌, ◌<◌};
+
+use decoding::decode_2d;
+use drawing::ends::{Ends, Place};
 use drawing::ticks::Cells;
-use drawing::titles::{put_count, put_head};
-use drawing::{ends, ticks};
-use printing::Buffer;
-use rules::Cell2;
+use drawing::titles::{Count, Head};
+use messages::{Outcome, failed};
+use printing::Output;
+use std::fmt;
+use std::fmt::Write;
 use std::rt::HostRuntime;
-use words::status::{FAILED, of_output};
-use words::{number_of, word};
+use words::Words;
 
 // How much all cells take across and down, and where they begin. Each of 2^8 takes a whole number of it.
 const SIDE: u64 = 7680;
 
-const LEFT: u64 = 500;
+const CORNER: Place = Place { x: 500, y: 1000 };
 
-const TOP: u64 = 1000;
+// The highest order that is drawn, and the highest at which the index of each cell is written.
+const TOP: u32 = 8;
 
-// The highest order at which the index of each cell is written.
 const WRITTEN: u32 = 4;
 
-// Puts a cell's centre, in cells.
-fn put_centre(buffer: &mut Buffer, at: usize, index: u64, order: u32) -> usize {
-    let cell = decoding_2d::decode_2d(index, order);
-    let Cell2::At(x, y) = cell else {
-        return at;
-    };
-    let a = printing::byte(buffer, at, b' ');
-    let b = printing::number(buffer, a, x);
-    let c = printing::bytes(buffer, b, b".5,");
-    let d = printing::number(buffer, c, y);
-    printing::bytes(buffer, d, b".5")
+// What begins at a corner and takes so much, across and down.
+#[derive(Clone, Copy)]
+struct Square {
+    corner: Place,
+    size: u64,
 }
 
-// Ends a stretch of the curve, and starts another in the hue of its first index.
-fn put_stretch(buffer: &mut Buffer, at: usize, index: u64, cells: u64) -> usize {
-    if cells == 0 {
-        return at;
-    }
-    let a = printing::bytes(buffer, at, b"'/>\n<polyline stroke='hsl(");
-    let b = printing::number(buffer, a, index % 65536 * 330 / cells);
-    printing::bytes(buffer, b, b",70%,48%)' points='")
-}
-
-// How many steps of one hue there are.
-fn steps(order: u32) -> u64 {
-    match order {
-        0 | 1 | 2 => 1,
-        3 | 4 => 4,
-        _ => 16,
+impl Square {
+    fn middle(self) -> Place {
+        let Place { x, y } = self.corner;
+        Place {
+            x: x.saturating_add(self.size / 2),
+            y: y.saturating_add(self.size / 2),
+        }
     }
 }
 
-// Puts the curve in stretches, each of which begins where the last one ended.
-fn put_stretches(buffer: &mut Buffer, at: usize, order: u32, cells: u64) -> usize {
-    let mut next = at;
-    let mut left = steps(order);
-    for i in 0..65536u64 {
-        if i < cells {
-            next = put_centre(buffer, next, i, order);
-            left = std::num::wrapping_sub_u64(left, 1);
-            if left == 0 {
-                next = put_stretch(buffer, next, i, cells);
-                next = put_centre(buffer, next, i, order);
-                left = steps(order);
+// A place between two cells' corners, where a cell takes 1.
+#[derive(Clone, Copy)]
+struct Centre([u64; 2]);
+
+impl fmt::Display for Centre {
+    fn fmt<W: Write>(&self, f: &mut fmt::Formatter<W>) -> fmt::Result {
+        let [x, y] = self.0;
+        write!(f, " {x}.5,{y}.5")
+    }
+}
+
+// The curve of an order.
+#[derive(Clone, Copy)]
+struct Curve {
+    order: u32,
+    ghost low: { order ≤ 8 },
+}
+
+impl Curve {
+    // How many cells there are on a side, and all of them.
+    fn side(self) -> u64 {
+        1 << self.order
+    }
+
+    fn cells(self) -> u64 {
+        1 << (2 * self.order)
+    }
+
+    fn last(self) -> u64 {
+        self.cells().saturating_sub(1)
+    }
+
+    // The cell of an index, which is one of the curve's.
+    fn cell(self, index: u64) -> [u64; 2] {
+        decode_2d(index, self.order).unwrap_or([0, 0])
+    }
+
+    // How much so many cells take.
+    fn taken(self, cells: u64) -> u64 {
+        cells.saturating_mul(SIDE) >> self.order
+    }
+
+    // The cell of an index as it is drawn.
+    fn drawn(self, index: u64) -> Square {
+        let [x, y] = self.cell(index);
+        Square {
+            corner: Place {
+                x: self.taken(x).saturating_add(CORNER.x),
+                y: self.taken(y).saturating_add(CORNER.y),
+            },
+            size: self.taken(1),
+        }
+    }
+
+    // How many steps of one hue there are.
+    fn steps(self) -> u64
+        ensures { 0 < result }
+    {
+        match self.order {
+            0..=2 => 1,
+            3..=4 => 4,
+            _ => 16,
+        }
+    }
+
+    // The hue that an index is drawn in.
+    fn hue(self, index: u64) -> u64 {
+        index.saturating_mul(330) >> (2 * self.order)
+    }
+
+    // Prints the curve in stretches, each of which begins where the last one ended. What is drawn is the number itself, here and in the corners.
+    fn print_stretches(self, out: &mut Output) -> Outcome {
+        for index in 0..self.cells() {
+            let centre = Centre(self.cell(index));
+            write!(out, "{centre}")?;
+            if (index + 1) % self.steps() == 0 {
+                let hue = self.hue(index);
+                write!(
+                    out,
+                    "'/>\n<polyline stroke='hsl({hue},70%,48%)' points='{centre}"
+                )?;
             }
         }
+        Ok(())
     }
-    next
-}
 
-// The cells on a side of the curve of an order up to 8, and all of them.
-fn side_of(order: u32) -> u64 {
-    match order {
-        0 => 1,
-        1 => 2,
-        2 => 4,
-        3 => 8,
-        4 => 16,
-        5 => 32,
-        6 => 64,
-        7 => 128,
-        _ => 256,
+    // Prints the curve.
+    fn print_line(self, out: &mut Output) -> Outcome {
+        let scale = self.taken(1);
+        write!(
+            out,
+            "<g transform='translate(500 1000) scale({scale})' fill='none' stroke-width='0.25' stroke-linejoin='round' stroke-linecap='round'>\n<polyline stroke='hsl(0,70%,48%)' points='"
+        )?;
+        self.print_stretches(out)?;
+        out.write_str("'/>\n</g>\n")?;
+        Ok(())
     }
-}
 
-fn cells_of(order: u32) -> u64 {
-    match order {
-        0 => 1,
-        1 => 4,
-        2 => 16,
-        3 => 64,
-        4 => 256,
-        5 => 1024,
-        6 => 4096,
-        7 => 16384,
-        _ => 65536,
-    }
-}
-
-// How much so many cells of an order take.
-fn taken(cells: u64, order: u32) -> u64 {
-    cells % 512 * SIDE >> (order % 16)
-}
-
-// The upper left corner of a cell.
-fn corner_of(index: u64, order: u32) -> Place {
-    let cell = decoding_2d::decode_2d(index, order);
-    let Cell2::At(x, y) = cell else {
-        return Place { x: LEFT, y: TOP };
-    };
-    Place {
-        x: std::num::wrapping_add_u64(LEFT, taken(x, order)),
-        y: std::num::wrapping_add_u64(TOP, taken(y, order)),
-    }
-}
-
-// The middle of what begins at a corner and takes so much.
-fn middle_of(corner: Place, size: u64) -> Place {
-    Place {
-        x: std::num::wrapping_add_u64(corner.x, size / 2),
-        y: std::num::wrapping_add_u64(corner.y, size / 2),
-    }
-}
-
-// Puts the curve.
-fn put_curve(buffer: &mut Buffer, at: usize, order: u32) -> usize {
-    let a = printing::bytes(buffer, at, b"<g transform='translate(500 1000) scale(");
-    let b = printing::number(buffer, a, taken(1, order));
-    let c = printing::bytes(
-        buffer,
-        b,
-        b")' fill='none' stroke-width='0.25' stroke-linejoin='round' stroke-linecap='round'>\n<polyline stroke='hsl(0,70%,48%)' points='",
-    );
-    let d = put_stretches(buffer, c, order, cells_of(order));
-    printing::bytes(buffer, d, b"'/>\n</g>\n")
-}
-
-// Puts the index of a cell in its corner.
-fn put_index(buffer: &mut Buffer, at: usize, index: u64, order: u32) -> usize {
-    let corner = corner_of(index, order);
-    let a = printing::bytes(buffer, at, b"<text x='");
-    let b = printing::number(buffer, a, std::num::wrapping_add_u64(corner.x, 20));
-    let c = printing::bytes(buffer, b, b"' y='");
-    let d = printing::number(buffer, c, std::num::wrapping_add_u64(corner.y, 100));
-    let e = printing::bytes(buffer, d, b"'>");
-    let f = printing::number(buffer, e, index);
-    printing::bytes(buffer, f, b"</text>\n")
-}
-
-// Puts the index of each cell, at low orders.
-fn put_indices(buffer: &mut Buffer, at: usize, order: u32) -> usize {
-    if WRITTEN < order {
-        return at;
-    }
-    let cells = cells_of(order);
-    let mut next = printing::bytes(
-        buffer,
-        at,
-        b"<g font-size='90' stroke='white' stroke-width='20' stroke-linejoin='round' paint-order='stroke'>\n",
-    );
-    for i in 0..256u64 {
-        if i < cells {
-            next = put_index(buffer, next, i, order);
+    // Prints the index of each cell in its corner, at low orders.
+    fn print_indices(self, out: &mut Output) -> Outcome {
+        if WRITTEN < self.order {
+            return Ok(());
         }
+        out.write_str(
+            "<g font-size='90' stroke='white' stroke-width='20' stroke-linejoin='round' paint-order='stroke'>\n",
+        )?;
+        for index in 0..self.cells() {
+            let Place { x, y } = self.drawn(index).corner;
+            let left = x.saturating_add(20);
+            let base = y.saturating_add(100);
+            writeln!(out, "<text x='{left}' y='{base}'>{index}</text>")?;
+        }
+        out.write_str("</g>\n")?;
+        Ok(())
     }
-    printing::bytes(buffer, next, b"</g>\n")
+
+    // Prints the numbers of columns and lines, and the frame.
+    fn print_frame(self, out: &mut Output) -> Outcome {
+        let cells = Cells {
+            x: CORNER.x,
+            y: CORNER.y,
+            columns: self.side(),
+            lines: self.side(),
+            across: self.taken(1),
+            down: self.taken(1),
+        };
+        writeln!(
+            out,
+            "{cells}<path stroke='#666' stroke-width='10' fill='none' d='M500 1000h7680v7680h-7680z'/>"
+        )?;
+        Ok(())
+    }
+
+    // Prints marks on the first and the last cell.
+    fn print_ends(self, out: &mut Output) -> Outcome {
+        let all = Square {
+            corner: CORNER,
+            size: SIDE,
+        };
+        let last = (self.order != 0).then_some(self.drawn(self.last()).middle());
+        let ends = Ends {
+            first: self.drawn(0).middle(),
+            last,
+            middle: all.middle(),
+        };
+        write!(out, "<g fill='none'>\n{ends}</g>\n")?;
+        Ok(())
+    }
+
+    // Prints what the picture is.
+    fn print_title(self, out: &mut Output) -> Outcome {
+        let order = self.order;
+        let side = self.side();
+        let count = Count {
+            n: side,
+            name: "cell",
+        };
+        let last = self.last();
+        writeln!(
+            out,
+            "<text x='50' y='34' font-size='17' font-weight='bold'>the Hilbert curve of order {order}: {side} by {count}</text>"
+        )?;
+        writeln!(
+            out,
+            "<text x='50' y='56' fill='#444'>indices 0 to {last}, in hues from red round to magenta</text>"
+        )?;
+        Ok(())
+    }
+
+    fn print(self, rt: HostRuntime) -> Outcome {
+        let mut out = Output::of(rt);
+        let head = Head {
+            width: 840,
+            height: 890,
+        };
+        write!(out, "{head}")?;
+        self.print_title(&mut out)?;
+        out.write_str("<g transform='scale(.1)'>\n")?;
+        self.print_frame(&mut out)?;
+        self.print_line(&mut out)?;
+        self.print_indices(&mut out)?;
+        self.print_ends(&mut out)?;
+        out.write_str("</g>\n</svg>\n")?;
+        out.finish()
+    }
 }
 
-// Puts the numbers of columns and lines, and the frame.
-fn put_frame(buffer: &mut Buffer, at: usize, order: u32) -> usize {
-    let cells = Cells {
-        x: LEFT,
-        y: TOP,
-        columns: side_of(order),
-        lines: side_of(order),
-        across: taken(1, order),
-        down: taken(1, order),
-    };
-    let next = ticks::put(buffer, at, cells);
-    printing::bytes(
-        buffer,
-        next,
-        b"<path stroke='#666' stroke-width='10' fill='none' d='M500 1000h7680v7680h-7680z'/>\n",
-    )
-}
-
-// Puts marks on the first and the last cell.
-fn put_ends(buffer: &mut Buffer, at: usize, order: u32) -> usize {
-    let size = taken(1, order);
-    let last = std::num::wrapping_sub_u64(cells_of(order), 1);
-    let a = printing::bytes(buffer, at, b"<g fill='none'>\n");
-    let b = ends::put(
-        buffer,
-        a,
-        order == 0,
-        middle_of(corner_of(0, order), size),
-        middle_of(corner_of(last, order), size),
-        middle_of(Place { x: LEFT, y: TOP }, SIDE),
-    );
-    printing::bytes(buffer, b, b"</g>\n")
-}
-
-// Puts what the picture is.
-fn put_title(buffer: &mut Buffer, at: usize, order: u32) -> usize {
-    let a = printing::bytes(
-        buffer,
-        at,
-        b"<text x='50' y='34' font-size='17' font-weight='bold'>the Hilbert curve of order ",
-    );
-    let b = printing::number(buffer, a, order as u64);
-    let c = printing::bytes(buffer, b, b": ");
-    let d = printing::number(buffer, c, side_of(order));
-    let e = printing::bytes(buffer, d, b" by ");
-    let f = put_count(buffer, e, side_of(order), b" cell");
-    let g = printing::bytes(
-        buffer,
-        f,
-        b"</text>\n<text x='50' y='56' fill='#444'>indices 0 to ",
-    );
-    let last = std::num::wrapping_sub_u64(cells_of(order), 1);
-    let h = printing::number(buffer, g, last);
-    printing::bytes(buffer, h, b", in hues from red round to magenta</text>\n")
-}
-
-// Draws the curve of an order up to 8; of a higher order it draws the curve of 8.
-fn draw(rt: HostRuntime, order: u32) -> u8 {
-    let mut buffer = Buffer::of(rt);
-    let a = put_head(&mut buffer, 0, 840, 890);
-    let b = put_title(&mut buffer, a, order);
-    let c = printing::bytes(&mut buffer, b, b"<g transform='scale(.1)'>\n");
-    let d = put_frame(&mut buffer, c, order);
-    let e = put_curve(&mut buffer, d, order);
-    let f = put_indices(&mut buffer, e, order);
-    let g = put_ends(&mut buffer, f, order);
-    let h = printing::bytes(&mut buffer, g, b"</g>\n</svg>\n");
-    of_output(printing::flush(&buffer, h))
-}
-
-pub(crate) fn command(rt: HostRuntime, line: &[u8]) -> u8 {
-    let order = number_of(word(line, 3));
-    if 8 < order {
-        faults::of(
+pub(crate) fn command(rt: HostRuntime, words: &Words) -> Outcome {
+    match words.number(3) {
+        Some(order) if order <= TOP => Curve { order }.print(rt),
+        _ => Err(failed(
             b"curve",
-            b"wanted an order of at most 8, which has 65,536 cells",
-        );
-        return FAILED;
+            "wanted an order of at most 8, which has 65,536 cells",
+        )),
     }
-    draw(rt, order)
 }

@@ -5,7 +5,6 @@ use mathlib.Core.Path.{◌≡◌, sym, ap, ap₂, ◌∙◌, subst}
 use native.Mathlib.Omega.{arith}
 use native.Mathlib.Nat.{mul_comm}
 use lib.Arith.{digits_div, digits_mod}
-use lib.Bits.{bit_and, and_mask}
 use lib.Dec.{T}
 use lib.Pow.{pow_mono}
 use Rattle.rules.specs.Curve.{Machine, bit, level, undo, decode, coordinate_of}
@@ -26,8 +25,8 @@ undo_entry_lem {d} M s g h =
 abbrev pub Done : {d : ℕ} → Machine d → ℕ → ℕ → ℕ → ℕ → ℕ → ℕ → Type 0
 Done {d} M index order e left state X = X * 2 ^ left + decode M e left state (λ j. level d j index) ≡ coordinate_of M order index e
 
-module _ {d : ℕ} (M : Machine d) (t : T (permutes M)) (index order left state shift entry : ℕ) (p : 0 < left) (h : state < M.states)
-    (q : shift ≡ d * (left - 1)) (w : entry ≡ undo_entry M (2 ^ d * state + bit_and (index / 2 ^ shift) (2 ^ d - 1))) where
+module _ {d : ℕ} (M : Machine d) (t : T (permutes M)) (index order left state entry : ℕ) (p : 0 < left) (h : state < M.states)
+    (w : entry ≡ undo_entry M (2 ^ d * state + level d (left - 1) index)) where
   digit : ℕ
   digit = level d (left - 1) index
 
@@ -35,7 +34,6 @@ module _ {d : ℕ} (M : Machine d) (t : T (permutes M)) (index order left state 
   unfolding digit
   said =
       w
-      ∙ ap (λ (n : ℕ). undo_entry M (2 ^ d * state + n)) (and_mask (index / 2 ^ shift) d ∙ ap (λ (n : ℕ). index / 2 ^ n % 2 ^ d) q)
       ∙ undo_entry_lem M state digit (part_lt d (d * (left - 1)) index)
       ∙ ap (λ (n : ℕ). n + undo M state digit) (mul_comm (2 ^ d) (M.next state (undo M state digit)))
 

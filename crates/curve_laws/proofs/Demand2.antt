@@ -2,13 +2,13 @@
 -- Both machines' rows are permutations, so RoundTrip's laws hold of them. Assumes nothing.
 use Prim.Native.Nat.{ℕ, zero, suc, ◌*◌, ◌^◌, ◌<◌}
 use mathlib.Core.Path.{◌≡◌, sym, ap, ap₂, ◌∙◌, subst}
+use mathlib.Core.List.{[], ◌∷◌}
 use native.Mathlib.Nat.{pow-zero, pow-suc, mul-zero, mul_comm}
+use Rattle.std.specs.Prelude.{Ok}
 use lib.Dec.{lit<}
 use lib.Pow.{pow-add}
 use Rattle.rules.specs.Curve.{plane, space, cell2, cell3, index_of, coordinate_of}
 use Rattle.rules.specs.Demands.{DecodeEncode2, EncodeDecode2, DecodeEncode3, EncodeDecode3}
-use Rattle.rules.specs.declared.Coded.TheVariants.{Index}
-use Rattle.rules.specs.declared.Cell2.TheVariants as flat
 use Rattle.curve_laws.proofs.Parts.{more}
 use Rattle.curve_laws.proofs.Permutes.{plane_permutes, plane_start, space_permutes, space_start}
 use Rattle.curve_laws.proofs.RoundTrip.{decode-encode, encode-decode, index_below, coordinate_below}
@@ -29,7 +29,7 @@ decode_encode_2d x y order o p q =
     let b = decode-encode plane plane_permutes plane_start order (cell2 x y) in (
       index_of plane order (cell2 x y),
       encode2_index x y order o p q,
-      decode2_cell _ order o (index_below plane plane_permutes plane_start order (cell2 x y)) ∙ ap₂ flat.At (b 1 (lit< tt) p) (b 0 (lit< tt) q),
+      decode2_cell _ order o (index_below plane plane_permutes plane_start order (cell2 x y)) ∙ ap₂ (λ (u v : ℕ). Ok (u ∷ v ∷ [])) (b 1 (lit< tt) p) (b 0 (lit< tt) q),
     )
 
 pub encode_decode_2d : EncodeDecode2
@@ -42,7 +42,7 @@ encode_decode_2d i order o h =
       y,
       decode2_cell i order o l,
       encode2_index x y order o (coordinate_below plane order i 1) (coordinate_below plane order i 0)
-          ∙ ap Index (encode-decode plane plane_permutes plane_start order i l),
+          ∙ ap (λ (n : ℕ). Ok n) (encode-decode plane plane_permutes plane_start order i l),
     )
 
 pub decode_encode_3d : DecodeEncode3
@@ -66,5 +66,5 @@ encode_decode_3d i order o h =
       z,
       decode3_cell i order o l,
       encode3_index x y z order o (coordinate_below space order i 2) (coordinate_below space order i 1) (coordinate_below space order i 0)
-          ∙ ap Index (encode-decode space space_permutes space_start order i l),
+          ∙ ap (λ (n : ℕ). Ok n) (encode-decode space space_permutes space_start order i l),
     )

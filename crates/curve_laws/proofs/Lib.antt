@@ -18,5 +18,7 @@ pub mod Interleave
 pub mod SpreadInSteps
 pub mod OntoCombs
 pub mod Shifts
+pub mod OnTop
 pub mod DecodeTurn
+pub mod CurveIn
 pub mod Tabulated

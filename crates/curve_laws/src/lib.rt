@@ -8,8 +8,10 @@
 //   NeighboursOnTheCurve     for any machine that passes the second too, CornersMeet of rules: successive indices have cells that are 1 apart on
 //                            one axis and 0 on every other; where the 2D and the 3D curve begin and end
 //   OneCoordinateByOne       that differences add up to 1 is 02's sentence: by exactly 1 in one coordinate and not at all in the others
-//   Refusals, Answers        what an encoder or a decoder answers, by the tests that its input passes; the number and values of each answer
+//   Refusals, Answers        what an encoder or a decoder answers, by the tests that its input passes, and back; the number and values of each answer
 //   Turns, Groups            one turn of a loop over the levels, and of one that takes several levels at once
+//   OnTop                    the levels to come in the topmost of 64 places, of which each turn takes some
+//   CurveIn                  what holds of the plane's machine and of that of space alike
 //   DecodeTurn               one turn of a decoder's loop by a table of the rows' inverses (specs/Undoes)
 //   Tabulated                the encoder's table of six levels at once: its entries by their rule (specs/Ruled), which leaves no second table
 //   Shifts                   what the code's shifts say of a side and of an index

@@ -10,46 +10,42 @@
 // 4,096 constants; laid by one function, all 16,384 are laid out in its caller, and one pass over them takes it half a minute.
 #![tactic(auto)]
 
-ghost use Rattle.std.specs.Prelude.{◌≡◌, ◌+◌, ◌*◌, ◌<◌, length};
+ghost use Rattle.std.specs.Prelude.{◌+◌, ◌*◌, ◌<◌};
 ghost use Rattle.curve_laws.specs.Ruled.{Ruled, RuledBelow, RuledQuarter, RuledState};
 
 use table_states_0_1::{state_0, state_1};
 use table_states_2_3::{state_2, state_3};
 
-// Writes quarter n behind the quarters before it.
+// Writes quarter n behind the quarters before it. Its place is told by n: of mutable chunks nothing is known of the whole table at the end.
 fn lay_quarter(table: &mut [u16; 16384], n: usize, entries: &[u16; 1024])
     requires n_bound { (n < 16) × RuledQuarter n entries.now }
-    requires table_len { (length table.old ≡ 16384) × RuledBelow (1024 * n) table.old }
-    ensures { (length table.new ≡ 16384) × RuledBelow (1024 * n + 1024) table.new }
+    requires laid { RuledBelow (1024 * n) table.old }
+    ensures { RuledBelow (1024 * n + 1024) table.new }
 {
-    for z in 0..1024 {
-        table[1024 * n + z] = entries[z];
-    }
+    table[1024 * n..1024 * n + 1024].copy_from_slice(entries);
 }
 
 // Writes the entries of a state behind those of the states before it.
 fn lay(table: &mut [u16; 16384], state: usize, quarters: &[[u16; 1024]; 4])
     requires state_bound { (state < 4) × RuledState state quarters.now }
-    requires table_len { (length table.old ≡ 16384) × RuledBelow (4096 * state) table.old }
-    ensures { (length table.new ≡ 16384) × RuledBelow (4096 * state + 4096) table.new }
+    requires laid { RuledBelow (4096 * state) table.old }
+    ensures { RuledBelow (4096 * state + 4096) table.new }
 {
-    for q in 0..4 {
-        lay_quarter(table, 4 * state + q, &quarters[q]);
+    for (q, entries) in quarters.iter().enumerate() {
+        lay_quarter(table, 4 * state + q, entries);
     }
 }
 
 // Writes the entries of state 0.
 fn lay_state_0(table: &mut [u16; 16384])
-    requires { length table.old ≡ 16384 }
-    ensures { (length table.new ≡ 16384) × RuledBelow 4096 table.new }
+    ensures { RuledBelow 4096 table.new }
 {
     lay(table, 0, &state_0());
 }
 
 // Writes the entries of states 0 and 1.
 fn lay_to_state_1(table: &mut [u16; 16384])
-    requires { length table.old ≡ 16384 }
-    ensures { (length table.new ≡ 16384) × RuledBelow 8192 table.new }
+    ensures { RuledBelow 8192 table.new }
 {
     lay_state_0(table);
     lay(table, 1, &state_1());
@@ -57,8 +53,7 @@ fn lay_to_state_1(table: &mut [u16; 16384])
 
 // Writes the entries of states 0 to 2.
 fn lay_to_state_2(table: &mut [u16; 16384])
-    requires { length table.old ≡ 16384 }
-    ensures { (length table.new ≡ 16384) × RuledBelow 12288 table.new }
+    ensures { RuledBelow 12288 table.new }
 {
     lay_to_state_1(table);
     lay(table, 2, &state_2());
@@ -66,7 +61,6 @@ fn lay_to_state_2(table: &mut [u16; 16384])
 
 // Writes the entries of all states.
 fn lay_to_state_3(table: &mut [u16; 16384])
-    requires { length table.old ≡ 16384 }
     ensures { Ruled table.new }
 {
     lay_to_state_2(table);

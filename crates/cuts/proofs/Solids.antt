@@ -1,14 +1,16 @@
 -- The weight of a block is the sum of its solid, and the solids of its lines can be summed.
-use Prim.Native.Nat.{ℕ, ◌+◌, ◌-◌, ◌*◌, ◌≤◌, ◌<◌}
+use Prim.Native.Nat.{ℕ, zero, suc, ◌+◌, ◌-◌, ◌*◌, ◌≤◌, ◌<◌}
 use native.Mathlib.Omega.{arith}
 use native.Mathlib.Nat.{mul-le-mul_left, mul-le-mul, zero-add}
 use mathlib.Core.Path.{◌≡◌, ap, sym, ◌∙◌}
-use mathlib.Core.List.{List, [], ◌∷◌, ◌++◌}
-use lib.ListN.{length, get_or, drop, length-append, length-drop, get_or-append}
+use mathlib.Core.List.{List, [], ◌∷◌}
+use lib.Dec.{lit≤}
+use lib.ListN.{length, take, get_or, set, drop, length-set}
+use lib.Seq.{take_at}
 use Rattle.rules.specs.Sums.{total, list}
 use Rattle.rules.specs.Refusals.{top_side}
 use Rattle.laws.proofs.Lists.{length_list, list_ext, get_or_list}
-use Rattle.rules.specs.Grid.{Range, weight}
+use Rattle.rules.specs.Grid.{Range, on, weight}
 use Rattle.laws.proofs.Totals.{total_ext}
 use Rattle.halving_laws.proofs.Reach.{cut_ext}
 use Rattle.halving_laws.proofs.Nested.{nest, nest_end}
@@ -16,11 +18,11 @@ use Rattle.lines.specs.Stacks.{run_sum, sheet_sum, solid_sum, line_of, SolidFits
 use Rattle.lines.specs.declared.Stack.{Stack}
 use Rattle.lines.proofs.Bounds.{solid_light}
 use Rattle.median.specs.Median.{line_at, LinesLight, CutIs}
-use Rattle.blocks.specs.Blocks.{Shape, two_axes, three_axes, Across, across_x, across_y, across_z, sides_of, from, as_block, start, stride, side, slab, lines, left_part, OneLayer}
-use Rattle.blocks.specs.declared.Grid.{Grid}
-use Rattle.blocks.specs.declared.SubGrid.{SubGrid}
-use Rattle.blocks.proofs.AsBlocks.{back}
-use Rattle.cuts.specs.Cuts.{stack_of, solid, line_weight, filled, Readable, Lies}
+use Rattle.blocks.specs.Blocks.{sides_of, from, ranges, as_block, start, strides, slab, lines, left_part}
+use Rattle.blocks.specs.declared.grid.Grid.{Grid}
+use Rattle.blocks.specs.declared.block.SubGrid.{SubGrid}
+use Rattle.blocks.proofs.AsBlocks.{three, back}
+use Rattle.cuts.specs.Sums.{stack_of, solid, line_weight, filled, Readable, Lies}
 
 -- Weights as sums of solids.
 
@@ -28,63 +30,95 @@ use Rattle.cuts.specs.Cuts.{stack_of, solid, line_weight, filled, Readable, Lies
 size : Range → ℕ
 size r = r.high - r.low
 
-module _ (g : Grid) (ws : List ℕ) where
+module _ (ws : List ℕ) (w h d : ℕ) where
   -- the stack of a block with these sides
   abbrev sized : ℕ → ℕ → ℕ → Stack
-  sized w h d = record { width = w; row = g.width; height = h; layer = g.width * g.height; layers = d }
+  sized p q r = record { width = p; row = w; height = q; layer = w * h; layers = r }
 
-  index_in_space : (x y z i j k : ℕ)
-      → (x + i) + g.width * ((y + j) + g.height * ((z + k) + g.layers * 0)) ≡ (((x + g.width * (y + g.height * z)) + g.width * g.height * k) + g.width * j) + i
+  index_in_space : (x y z i j k : ℕ) → (x + i) + w * ((y + j) + h * ((z + k) + d * 0)) ≡ (((x + w * (y + h * z)) + w * h * k) + w * j) + i
   index_in_space x y z i j k = omega arith
 
-  index_in_plane : (x y i j : ℕ)
-      → (x + i) + g.width * ((y + j) + g.height * 0) ≡ (((x + g.width * (y + g.height * 0)) + g.width * g.height * 0) + g.width * j) + i
+  index_in_plane : (x y i j : ℕ) → (x + i) + w * ((y + j) + h * 0) ≡ (((x + w * (y + h * 0)) + w * h * 0) + w * j) + i
   index_in_plane x y i j = omega arith
 
-  in_space : (x y z : Range) → x.high ≤ g.width → y.high ≤ g.height → z.high ≤ g.layers
-      → weight (sides_of three_axes g) ws (x ∷ y ∷ z ∷ [])
-      ≡ solid_sum ws (x.low + g.width * (y.low + g.height * z.low)) (sized (size x) (size y) (size z)) (size z)
+  in_space : (x y z : Range) → x.high ≤ w → y.high ≤ h → z.high ≤ d
+      → weight (w ∷ h ∷ d ∷ []) ws (x ∷ y ∷ z ∷ []) ≡ solid_sum ws (x.low + w * (y.low + h * z.low)) (sized (size x) (size y) (size z)) (size z)
   unfolding weight solid_sum sheet_sum run_sum size
   in_space x y z p q r =
-      nest g.width (g.height ∷ g.layers ∷ []) (λ c. get_or ws c 0) x (y ∷ z ∷ []) p
-      ∙ nest g.height (g.layers ∷ []) _ y (z ∷ []) q
-      ∙ nest g.layers [] _ z [] r
+      nest w (h ∷ d ∷ []) (λ c. get_or ws c 0) x (y ∷ z ∷ []) p
+      ∙ nest h (d ∷ []) _ y (z ∷ []) q
+      ∙ nest d [] _ z [] r
       ∙ nest_end _
       ∙ total_ext _ _ (size z) (λ k a. total_ext _ _ (size y) (λ j b. total_ext _ _ (size x)
       (λ i c. ap (λ (n : ℕ). get_or ws n 0) (index_in_space x.low y.low z.low i j k))))
 
-  in_plane : (x y : Range) → x.high ≤ g.width → y.high ≤ g.height
-      → weight (sides_of two_axes g) ws (x ∷ y ∷ [])
-      ≡ solid_sum ws (x.low + g.width * (y.low + g.height * 0)) (sized (size x) (size y) 1) 1
+  in_plane : (x y : Range) → x.high ≤ w → y.high ≤ h
+      → weight (w ∷ h ∷ []) ws (x ∷ y ∷ []) ≡ solid_sum ws (x.low + w * (y.low + h * 0)) (sized (size x) (size y) 1) 1
   unfolding weight solid_sum sheet_sum run_sum size total
   in_plane x y p q =
-      nest g.width (g.height ∷ []) (λ c. get_or ws c 0) x (y ∷ []) p
-      ∙ nest g.height [] _ y [] q
+      nest w (h ∷ []) (λ c. get_or ws c 0) x (y ∷ []) p
+      ∙ nest h [] _ y [] q
       ∙ nest_end _
       ∙ total_ext _ _ (size y) (λ j b. total_ext _ _ (size x) (λ i c. ap (λ (n : ℕ). get_or ws n 0) (index_in_plane x.low y.low i j)))
       ∙ sym (zero-add _)
 
-  pub weight_is_solid : (s : Shape) (b : SubGrid) → Lies g ws b → OneLayer s b → weight (sides_of s g) ws (as_block s b) ≡ solid g ws b
-  unfolding solid size
-  weight_is_solid three_axes b r f =
-      in_space (from b.x b.width) (from b.y b.height) (from b.z b.layers) r.wide r.tall r.deep
-      ∙ rw (back b.x b.width, back b.y b.height, back b.z b.layers)
-  weight_is_solid two_axes b r f =
-      in_plane (from b.x b.width) (from b.y b.height) r.wide r.tall
-      ∙ rw (back b.x b.width, back b.y b.height, f.0, f.1)
+  -- of two axes or three
+  on_axes : (n x y z p q r : ℕ) → (2 ≤ n) × (n ≤ 3) → (n < 3 → (d ≡ 1) × (r ≡ 1)) → x + p ≤ w → y + q ≤ h → z + r ≤ d
+      → weight (take n (w ∷ h ∷ d ∷ [])) ws (take n (ranges (x ∷ y ∷ z ∷ []) (p ∷ q ∷ r ∷ []))) ≡ solid_sum ws (x + w * (y + h * z)) (sized p q r) r
+  unfolding ranges size
+  on_axes zero x y z p q r f l a b c = absurd (omega arith)
+  on_axes (suc zero) x y z p q r f l a b c = absurd (omega arith)
+  on_axes (suc (suc zero)) x y z p q r f l a b c =
+      let t = l (omega arith) in
+      let bottom : z ≡ 0 = omega (arith, t) in
+      in_plane (from x p) (from y q) a b ∙ rw (back x p, back y q, bottom, t.1)
+  on_axes (suc (suc (suc zero))) x y z p q r f l a b c = in_space (from x p) (from y q) (from z r) a b c ∙ rw (back x p, back y q, back z r)
+  on_axes (suc (suc (suc (suc n)))) x y z p q r f l a b c = absurd (omega arith)
+
+pub weight_is_solid : (g : Grid) (ws : List ℕ) (b : SubGrid) → Lies g b → (g.axes < 3 → on b.sides 2 ≡ 1) → weight (sides_of g) ws (as_block g.axes b) ≡ solid g ws b
+unfolding solid
+weight_is_solid g ws b r f =
+    let e : weight (sides_of g) ws (as_block g.axes b)
+    ≡ weight (take g.axes (on g.sides 0 ∷ on g.sides 1 ∷ on g.sides 2 ∷ [])) ws
+    (take g.axes (ranges (on b.low 0 ∷ on b.low 1 ∷ on b.low 2 ∷ []) (on b.sides 0 ∷ on b.sides 1 ∷ on b.sides 2 ∷ []))) =
+    rw (← three g.sides g.three, ← three b.low r.low_long, ← three b.sides r.sides_long) in
+    e
+    ∙ on_axes ws _ _ _ g.axes _ _ _ _ _ _ g.axes_fit (λ l. (g.one_layer l, f l)) (r.inside 0 (lit≤ tt)) (r.inside 1 (lit≤ tt)) (r.inside 2 (lit≤ tt))
 
 -- Where blocks lie.
 
-module _ {g : Grid} {ws : List ℕ} {b : SubGrid} (r : Lies g ws b) where
-  pub lies_lines : (ax : Across) (i n : ℕ) → i + n ≤ side ax b → Lies g ws (lines ax b i n)
-  lies_lines across_x i n l = record { readable = r.readable; wide = omega (arith, r.wide); tall = r.tall; deep = r.deep }
-  lies_lines across_y i n l = record { readable = r.readable; wide = r.wide; tall = omega (arith, r.tall); deep = r.deep }
-  lies_lines across_z i n l = record { readable = r.readable; wide = r.wide; tall = r.tall; deep = omega (arith, r.deep) }
+-- lines on an axis reach no further than the block on any
+reach_of_lines : (low sides : List ℕ) (a k i n : ℕ) → length low ≡ length sides → i + n ≤ on sides a
+    → on (set low a (on low a + i)) k + on (set sides a n) k ≤ on low k + on sides k
+reach_of_lines [] [] a k i n e l = omega arith
+reach_of_lines [] (s ∷ sides) a k i n e l = absurd (omega arith)
+reach_of_lines (x ∷ low) [] a k i n e l = absurd (omega arith)
+reach_of_lines (x ∷ low) (s ∷ sides) zero zero i n e l = omega arith
+reach_of_lines (x ∷ low) (s ∷ sides) zero (suc k) i n e l = omega arith
+reach_of_lines (x ∷ low) (s ∷ sides) (suc a) zero i n e l = omega arith
+reach_of_lines (x ∷ low) (s ∷ sides) (suc a) (suc k) i n e l = reach_of_lines low sides a k i n (omega arith) l
 
-  pub lies_left : (ax : Across) (at : ℕ) → at ≤ side ax b → Lies g ws (left_part ax b at)
-  lies_left across_x at l = record { readable = r.readable; wide = omega (arith, r.wide); tall = r.tall; deep = r.deep }
-  lies_left across_y at l = record { readable = r.readable; wide = r.wide; tall = omega (arith, r.tall); deep = r.deep }
-  lies_left across_z at l = record { readable = r.readable; wide = r.wide; tall = r.tall; deep = omega (arith, r.deep) }
+shorter : (sides : List ℕ) (a k n : ℕ) → n ≤ on sides a → on (set sides a n) k ≤ on sides k
+shorter [] a k n l = omega arith
+shorter (s ∷ sides) zero zero n l = l
+shorter (s ∷ sides) zero (suc k) n l = omega arith
+shorter (s ∷ sides) (suc a) zero n l = omega arith
+shorter (s ∷ sides) (suc a) (suc k) n l = shorter sides a k n l
+
+module _ {g : Grid} {b : SubGrid} (r : Lies g b) where
+  pub lies_lines : (a i n : ℕ) → i + n ≤ on b.sides a → Lies g (lines a b i n)
+  lies_lines a i n l = record {
+    low_long = length-set b.low a _ ∙ r.low_long;
+    sides_long = length-set b.sides a n ∙ r.sides_long;
+    inside = λ k h. omega (arith, r.inside k h, reach_of_lines b.low b.sides a k i n (r.low_long ∙ sym r.sides_long) l);
+  }
+
+  pub lies_left : (a at : ℕ) → at ≤ on b.sides a → Lies g (left_part a b at)
+  lies_left a at l = record {
+    low_long = r.low_long;
+    sides_long = length-set b.sides a at ∙ r.sides_long;
+    inside = λ k h. omega (arith, r.inside k h, shorter b.sides a k at l);
+  }
 
 -- What the sums ask.
 
@@ -92,118 +126,140 @@ record Products (W H D : ℕ) : Type 0 where
   two : W * H ≤ 1048576
   three : W * (H * D) ≤ 1073741824
 
-products : {g : Grid} {ws : List ℕ} → Readable g ws → Products g.width g.height g.layers
-products r = record { two = mul-le-mul r.width_fits r.height_fits; three = mul-le-mul r.width_fits (mul-le-mul r.height_fits r.layers_fit) }
+products : {g : Grid} {ws : List ℕ} → Readable g ws → Products (on g.sides 0) (on g.sides 1) (on g.sides 2)
+products r =
+    let w = r.sides_fit 0 (lit≤ tt) in
+    let h = r.sides_fit 1 (lit≤ tt) in
+    record { two = mul-le-mul w h; three = mul-le-mul w (mul-le-mul h (r.sides_fit 2 (lit≤ tt))) }
 
 -- a line before the end of a side
 upto : (z k d : ℕ) {D : ℕ} → z + d ≤ D → k < d → (z + k) + 1 ≤ D
 upto z k d h l = omega arith
 
-module _ {g : Grid} {ws : List ℕ} {b : SubGrid} (r : Lies g ws b) where
-  height_small : g.height * b.z ≤ 1048576
-  height_small = mul-le-mul {m₂ = 1024} r.readable.height_fits (omega (arith, r.deep, r.readable.layers_fit))
+module _ {g : Grid} {ws : List ℕ} {b : SubGrid} (f : Readable g ws) (r : Lies g b) where
+  wide : on b.low 0 + on b.sides 0 ≤ on g.sides 0
+  wide = r.inside 0 (lit≤ tt)
 
-  corner_small : g.width * (b.y + g.height * b.z) ≤ 1074790400
-  corner_small = mul-le-mul {m₂ = 1049600} r.readable.width_fits (omega (arith, r.tall, r.readable.height_fits, height_small))
+  tall : on b.low 1 + on b.sides 1 ≤ on g.sides 1
+  tall = r.inside 1 (lit≤ tt)
 
-  pub corner_fits : ((g.height * b.z < 4294967296) × (b.y + g.height * b.z < 4294967296))
-      × ((g.width * (b.y + g.height * b.z) < 4294967296) × (start g b < 4294967296))
+  deep : on b.low 2 + on b.sides 2 ≤ on g.sides 2
+  deep = r.inside 2 (lit≤ tt)
+
+  width_fits : on g.sides 0 ≤ top_side
+  width_fits = f.sides_fit 0 (lit≤ tt)
+
+  height_fits : on g.sides 1 ≤ top_side
+  height_fits = f.sides_fit 1 (lit≤ tt)
+
+  layers_fit : on g.sides 2 ≤ top_side
+  layers_fit = f.sides_fit 2 (lit≤ tt)
+
+  height_small : on g.sides 1 * on b.low 2 ≤ 1048576
+  height_small = mul-le-mul {m₂ = 1024} height_fits (omega (arith, deep, layers_fit))
+
+  corner_small : on g.sides 0 * (on b.low 1 + on g.sides 1 * on b.low 2) ≤ 1074790400
+  corner_small = mul-le-mul {m₂ = 1049600} width_fits (omega (arith, tall, height_fits, height_small))
+
+  pub corner_fits : ((on g.sides 1 * on b.low 2 < 4294967296) × (on b.low 1 + on g.sides 1 * on b.low 2 < 4294967296))
+      × ((on g.sides 0 * (on b.low 1 + on g.sides 1 * on b.low 2) < 4294967296) × (start g b < 4294967296))
   corner_fits = (
-    (omega (arith, height_small), omega (arith, r.tall, r.readable.height_fits, height_small)),
-    (omega (arith, corner_small), omega (arith, r.wide, r.readable.width_fits, corner_small)),
+    (omega (arith, height_small), omega (arith, tall, height_fits, height_small)),
+    (omega (arith, corner_small), omega (arith, wide, width_fits, corner_small)),
   )
-
-  pub layer_fits : g.width * g.height < 4294967296
-  layer_fits = omega (arith, (products r.readable).two)
 
   pub solid_fits : SolidFits ws (start g b) (stack_of g b)
   solid_fits =
-      let m = products r.readable in
-      let f = r.readable in
-      let rows = mul-le-mul_left g.width r.tall in
-      let layers = mul-le-mul_left g.width (mul-le-mul_left g.height r.deep) in
+      let m = products f in
+      let rows = mul-le-mul_left (on g.sides 0) tall in
+      let layers = mul-le-mul_left (on g.sides 0) (mul-le-mul_left (on g.sides 1) deep) in
       record {
-        short = omega (arith, r.deep, f.layers_fit);
-        reach = omega (arith, r.wide, f.width_fits, m.two, m.three);
-        each = λ k l. let deeper = mul-le-mul_left g.width (mul-le-mul_left g.height (upto b.z k b.layers r.deep l)) in
+        short = omega (arith, deep, layers_fit);
+        reach = omega (arith, wide, width_fits, m.two, m.three);
+        each = λ k l. let deeper = mul-le-mul_left (on g.sides 0) (mul-le-mul_left (on g.sides 1) (upto (on b.low 2) k (on b.sides 2) deep l)) in
             record {
-              short = omega (arith, r.tall, f.height_fits);
-              reach = omega (arith, r.wide, f.width_fits, m.two, m.three);
-              each = λ j i. let lower = mul-le-mul_left g.width (upto b.y j b.height r.tall i) in
-                  record { short = omega (arith, r.wide, f.width_fits); reach = omega (arith, r.wide, f.long) };
+              short = omega (arith, tall, height_fits);
+              reach = omega (arith, wide, width_fits, m.two, m.three);
+              each = λ j i. let lower = mul-le-mul_left (on g.sides 0) (upto (on b.low 1) j (on b.sides 1) tall i) in
+                  record { short = omega (arith, wide, width_fits); reach = omega (arith, wide, f.long) };
             };
       }
 
 -- The lines of a block.
 
-start_slab : (g : Grid) (ax : Across) (b : SubGrid) (i : ℕ) → start g b + stride ax g * i ≡ start g (slab ax b i)
-start_slab g across_x b i = omega arith
-start_slab g across_y b i = omega arith
-start_slab g across_z b i = omega arith
+-- where line i begins
+begins : (w h x y z a i : ℕ) → a < 3
+    → (x + w * (y + h * z)) + on (1 ∷ w ∷ w * h ∷ []) a * i
+    ≡ on (set (x ∷ y ∷ z ∷ []) a (on (x ∷ y ∷ z ∷ []) a + i)) 0
+    + w * (on (set (x ∷ y ∷ z ∷ []) a (on (x ∷ y ∷ z ∷ []) a + i)) 1 + h * on (set (x ∷ y ∷ z ∷ []) a (on (x ∷ y ∷ z ∷ []) a + i)) 2)
+begins w h x y z zero i l = omega arith
+begins w h x y z (suc zero) i l = omega arith
+begins w h x y z (suc (suc zero)) i l = omega arith
+begins w h x y z (suc (suc (suc a))) i l = absurd (omega arith)
+
+start_slab : (g : Grid) (a : ℕ) (b : SubGrid) (i : ℕ) → length b.low ≡ 3 → a < 3 → start g b + on (strides g) a * i ≡ start g (slab a b i)
+start_slab g a b i e l = rw (three b.low e) (begins (on g.sides 0) (on g.sides 1) _ _ _ a i l)
 
 -- a line as the code sums it: all lines have the sides of the first
-abbrev pub line_stack : Grid → Across → SubGrid → Stack
-line_stack g ax b = stack_of g (left_part ax b 1)
+abbrev pub line_stack : Grid → ℕ → SubGrid → Stack
+line_stack g a b = stack_of g (left_part a b 1)
 
-line_sum_is_solid : (g : Grid) (ws : List ℕ) (ax : Across) (b : SubGrid) (i : ℕ)
-    → line_of ws (start g b) (stride ax g) (line_stack g ax b) i ≡ line_weight g ws ax b i
+line_sum_is_solid : (g : Grid) (ws : List ℕ) (a : ℕ) (b : SubGrid) (i : ℕ) → length b.low ≡ 3 → a < 3
+    → line_of ws (start g b) (on (strides g) a) (line_stack g a b) i ≡ line_weight g ws a b i
 unfolding solid
-line_sum_is_solid g ws across_x b i = rw (start_slab g across_x b i)
-line_sum_is_solid g ws across_y b i = rw (start_slab g across_y b i)
-line_sum_is_solid g ws across_z b i = rw (start_slab g across_z b i)
+line_sum_is_solid g ws a b i e l = rw (start_slab g a b i e l)
 
-pub line_sums_fill : (g : Grid) (ws : List ℕ) (ax : Across) (b : SubGrid) (sums : List ℕ)
-    → list (line_of ws (start g b) (stride ax g) (line_stack g ax b)) (side ax b) ++ drop (side ax b) sums ≡ filled g ws ax b sums
-line_sums_fill g ws ax b sums = ap (λ (l : List ℕ). l ++ drop (side ax b) sums) (list_ext _ _ (side ax b) (λ i l. line_sum_is_solid g ws ax b i))
+filled_at : (g : Grid) (ws : List ℕ) (a : ℕ) (b : SubGrid) (i : ℕ) → i < on b.sides a → line_at (list (line_weight g ws a b) (on b.sides a)) i ≡ line_weight g ws a b i
+filled_at g ws a b i l = get_or_list (line_weight g ws a b) (on b.sides a) i 0 l
 
-filled_at : (g : Grid) (ws : List ℕ) (ax : Across) (b : SubGrid) (sums : List ℕ) (i : ℕ) → i < side ax b
-    → line_at (filled g ws ax b sums) i ≡ line_weight g ws ax b i
-filled_at g ws ax b sums i l =
-    get_or-append (list (line_weight g ws ax b) (side ax b)) (drop (side ax b) sums) 0 i (rw (length_list (line_weight g ws ax b) (side ax b)) l)
-    ∙ get_or_list (line_weight g ws ax b) (side ax b) i 0 l
+-- the sums that are filled
+pub first_sums : (g : Grid) (ws : List ℕ) (a : ℕ) (b : SubGrid) (sums : List ℕ) → take (on b.sides a) (filled g ws a b sums) ≡ list (line_weight g ws a b) (on b.sides a)
+first_sums g ws a b sums = take_at (list (line_weight g ws a b) (on b.sides a)) (drop (on b.sides a) sums) (on b.sides a) (length_list (line_weight g ws a b) (on b.sides a))
 
-module _ {g : Grid} {ws : List ℕ} {b : SubGrid} (r : Lies g ws b) where
-  pub side_fits : (ax : Across) → side ax b ≤ top_side
-  side_fits across_x = omega (arith, r.wide, r.readable.width_fits)
-  side_fits across_y = omega (arith, r.tall, r.readable.height_fits)
-  side_fits across_z = omega (arith, r.deep, r.readable.layers_fit)
+module _ {g : Grid} {ws : List ℕ} {b : SubGrid} (f : Readable g ws) (r : Lies g b) (a : ℕ) (h : a < 3) where
+  pub side_fits : on b.sides a ≤ top_side
+  side_fits = omega (arith, r.inside a h, f.sides_fit a h)
 
-  stride_fits : (ax : Across) → stride ax g * side ax b ≤ 1073741824
-  stride_fits across_x = omega (arith, side_fits across_x)
-  stride_fits across_y = let e : g.width * b.height ≤ 1048576 = mul-le-mul r.readable.width_fits (side_fits across_y) in omega arith
-  stride_fits across_z = mul-le-mul (products r.readable).two (side_fits across_z)
+  stride_fits : on (strides g) a * on b.sides a ≤ 1073741824
+  stride_fits = strided a h side_fits
+    where
+      strided : (a : ℕ) → a < 3 → on b.sides a ≤ top_side → on (strides g) a * on b.sides a ≤ 1073741824
+      strided zero h l = omega arith
+      strided (suc zero) h l = let e : on g.sides 0 * on b.sides 1 ≤ 1048576 = mul-le-mul (width_fits f r) l in omega arith
+      strided (suc (suc zero)) h l = mul-le-mul (products f).two l
+      strided (suc (suc (suc a))) h l = absurd (omega arith)
 
-  lines_reach : (ax : Across) → start g b + stride ax g * side ax b < 4294967296
-  lines_reach ax = omega (arith, stride_fits ax, corner_small r, r.wide, r.readable.width_fits)
+  pub lines_fit : LinesFit ws (start g b) (on (strides g) a) (on b.sides a) (line_stack g a b)
+  lines_fit = record {
+    short = side_fits;
+    reach = omega (arith, stride_fits, corner_small f r, wide f r, width_fits f r);
+    each = λ i l. rw (start_slab g a b i r.low_long h) (solid_fits f (lies_lines r a i 1 (omega arith)));
+  }
 
-  pub lines_fit : (ax : Across) → LinesFit ws (start g b) (stride ax g) (side ax b) (line_stack g ax b)
-  lines_fit across_x = record { short = side_fits across_x; reach = lines_reach across_x; each = λ i l. rw (start_slab g across_x b i) (solid_fits (lies_lines r across_x i 1 (omega arith))) }
-  lines_fit across_y = record { short = side_fits across_y; reach = lines_reach across_y; each = λ i l. rw (start_slab g across_y b i) (solid_fits (lies_lines r across_y i 1 (omega arith))) }
-  lines_fit across_z = record { short = side_fits across_z; reach = lines_reach across_z; each = λ i l. rw (start_slab g across_z b i) (solid_fits (lies_lines r across_z i 1 (omega arith))) }
+  pub line_sums_are : list (line_of ws (start g b) (on (strides g) a) (line_stack g a b)) (on b.sides a) ≡ list (line_weight g ws a b) (on b.sides a)
+  line_sums_are = list_ext _ _ (on b.sides a) (λ i l. line_sum_is_solid g ws a b i r.low_long h)
 
   -- no line is too heavy for the median
-  pub lines_light : (ax : Across) (sums : List ℕ) → LinesLight (filled g ws ax b sums) (side ax b)
+  pub lines_light : LinesLight (list (line_weight g ws a b) (on b.sides a))
   unfolding LinesLight
-  lines_light ax sums i l =
-      let f = (lines_fit ax).each i l in
+  lines_light i l =
+      let inside : i < on b.sides a = omega (arith, length_list (line_weight g ws a b) (on b.sides a)) in
+      let each = lines_fit.each i inside in
       omega (
         arith,
-        filled_at g ws ax b sums i l,
-        line_sum_is_solid g ws ax b i,
-        solid_light ws r.readable.light _ _ _ f.each,
-        f.short,
+        filled_at g ws a b i inside,
+        line_sum_is_solid g ws a b i r.low_long h,
+        solid_light ws f.light _ _ _ each.each,
+        each.short,
       )
 
 -- the median of the filled sums is the cut of the lines
-pub cut_of_sums : (g : Grid) (ws : List ℕ) (ax : Across) (b : SubGrid) (sums : List ℕ) (lo hi : ℕ) {at l : ℕ}
-    → CutIs (line_at (filled g ws ax b sums)) (side ax b) lo hi at l → CutIs (line_weight g ws ax b) (side ax b) lo hi at l
-cut_of_sums g ws ax b sums lo hi {at} {l} c =
+pub cut_of_sums : (g : Grid) (ws : List ℕ) (a : ℕ) (b : SubGrid) (lo hi : ℕ) {at l : ℕ}
+    → CutIs (line_at (list (line_weight g ws a b) (on b.sides a))) (on b.sides a) lo hi at l → CutIs (line_weight g ws a b) (on b.sides a) lo hi at l
+cut_of_sums g ws a b lo hi {at} {l} c =
+    let lines : List ℕ = list (line_weight g ws a b) (on b.sides a) in
     record {
-      place = c.place ∙ cut_ext (line_at (filled g ws ax b sums)) _ (side ax b) lo hi (filled_at g ws ax b sums);
-      weight = c.weight ∙ total_ext (line_at (filled g ws ax b sums)) _ at (λ i q. filled_at g ws ax b sums i (omega (arith, c.inside)));
+      place = c.place ∙ cut_ext (line_at lines) _ (on b.sides a) lo hi (filled_at g ws a b);
+      weight = c.weight ∙ total_ext (line_at lines) _ at (λ i q. filled_at g ws a b i (omega (arith, c.inside)));
       inside = c.inside;
     }
-
--- the filled sums are as many as they were
-pub filled_room : {g : Grid} {ws : List ℕ} {b : SubGrid} → Lies g ws b → (ax : Across) (sums : List ℕ) → length sums ≡ top_side → length (filled g ws ax b sums) ≡ top_side
-filled_room {g} {ws} {b} r ax sums e = simp (length-append, length-drop) (omega (arith, length_list (line_weight g ws ax b) (side ax b), side_fits r ax))

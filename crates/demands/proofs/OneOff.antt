@@ -14,7 +14,7 @@ use lib.Ieee.Scale.{finite}
 use Rattle.rules.specs.Refusals.{first_of, axis_tests}
 use Rattle.rules.specs.Axis.{axis_of, cell_of}
 use Rattle.rules.specs.declared.Axis.{Axis}
-use Rattle.rules.specs.declared.CellAnswer.TheVariants.{Cell}
+use Rattle.std.specs.Prelude.{Ok}
 use Rattle.rules.specs.declared.Extent.{Extent}
 use Rattle.axis_laws.proofs.SubMono.{minus}
 use Rattle.requests.specs.Scaled.{IsF64, scaled}
@@ -59,7 +59,7 @@ one_off_index_3d = index_at_most_one_off_3d
 
 -- of the axis that low, high and order make
 pub one_off_made : (low high value : Float) (order c : ℕ) → IsF64 low → IsF64 high → IsF64 value → first_of (axis_tests low high order) ≡ 0
-    → cell_of (axis_of low high order) value ≡ Cell c → NearOn (axis_of low high order) value c
+    → cell_of (axis_of low high order) value ≡ Ok c → NearOn (axis_of low high order) value c
 one_off_made = made_at_most_one_off
 
 -- of points on given axes, by their records

@@ -17,7 +17,7 @@ use Rattle.parts_laws.proofs.Splits.{split_is}
 module _ (n : ℕ) (ix ws parts order : List ℕ) where
   tested : Exactly (parts_tests n ix ws parts order) (parts_along n ix ws parts order).number
   unfolding parts_along parts_tests
-  tested = exactly (parts_tests n ix ws parts order) tt
+  tested = exactly (parts_tests n ix ws parts order)
 
   left : 0 < (parts_along n ix ws parts order).number → ((parts_along n ix ws parts order).parts ≡ parts) × ((parts_along n ix ws parts order).order ≡ order)
   unfolding parts_along

@@ -26,7 +26,7 @@ use Rattle.replay_laws.proofs.Accepted.{replay_accepted, answered}
 -- an event's answer is exactly as its two tests say
 pub event_answer : (ws : List ℕ) (cell amount : ℕ) → Exactly (event_tests ws cell amount) (answer_to ws cell amount)
 unfolding event_tests
-event_answer ws cell amount = exactly (event_tests ws cell amount) tt
+event_answer ws cell amount = exactly (event_tests ws cell amount)
 
 module _ (h : Halving) (t : Night) (n : ℕ) where
   unchanged : Unchanged h t n
@@ -38,7 +38,7 @@ module _ (h : Halving) (t : Night) (n : ℕ) where
 module _ (h : Halving) (axes : length h.sides ≤ 3) (ws cs ms answers splits ids : List ℕ) where
   tested : Exactly (replay_tests h ws cs ms answers splits ids) (replay h ws cs ms answers splits ids).number
   unfolding replay replay_tests
-  tested = exactly (replay_tests h ws cs ms answers splits ids) tt
+  tested = exactly (replay_tests h ws cs ms answers splits ids)
 
   left : let after = replay h ws cs ms answers splits ids in
       0 < after.number → (after.weights ≡ ws) × (after.answers ≡ answers) × (after.splits ≡ splits) × (after.ids ≡ ids)

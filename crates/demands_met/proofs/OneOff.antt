@@ -1,6 +1,6 @@
 -- REQUEST 14/14 of the functions: whatever fits the contract of a call that finds a cell, or indexes points, is at most 1 off on every axis that is
 -- not flat, and exact where the place is clear of borders. A point's cell is the one that its index decodes to. Assumes nothing.
-use Prim.Native.Nat.{ℕ, zero, suc}
+use Prim.Native.Nat.{ℕ}
 use mathlib.Core.Path.{◌≡◌, refl, sym, ◌∙◌, subst}
 use native.Mathlib.Omega.{arith}
 use mathlib.Core.Bool.{true}
@@ -8,17 +8,20 @@ use mathlib.Core.List.{List, [], ◌∷◌}
 use lib.Dec.{T}
 use lib.Ieee.{Float, binary64, fits}
 use borrow.Fn.Kinds.{GoodsP, ParamKind}
-use Rattle.rules.specs.Refusals.{first_of, axis_tests, cell_tests, axis_by, cell_by, read_cell}
+use Rattle.std.specs.Prelude.{Result, Ok, Err}
+use Rattle.rules.specs.Refusals.{first_of, axis_tests, number_in, read_cell}
 use Rattle.rules.specs.Curve.{default_order}
 use Rattle.rules.specs.Axis.{axis_of, make_axis, low_of, high_of, made_up, cell_on, cell_of}
 use Rattle.rules.specs.declared.Axis.{Axis}
 use Rattle.rules.specs.declared.Axis.TheVariants.{Flat, Sloped}
-use Rattle.rules.specs.declared.CellAnswer.TheVariants.{Cell}
+use Rattle.rules.specs.declared.refusal.Refusal.{Refusal}
 use Rattle.requests.specs.Scaled.{IsF64}
 use Rattle.requests.specs.Rounding.{AxisIsF64, AllF64, NearOn, NearPoints2, NearPoints3, NearKnots2, NearKnots3}
 use Rattle.knots_given.specs.Given.{axis_in}
 use Rattle.demands.proofs.OneOff.{one_off_f64, one_off_record, one_off_made, one_off_on_2d, one_off_on_3d, one_off_in_2d, one_off_in_3d, one_off_index_2d, one_off_index_3d}
 use Rattle.laws.proofs.Fitting.{Fitting}
+use Rattle.laws.proofs.Numbers.{number_above_0}
+use Rattle.axis_laws.proofs.MadeUp.{answered}
 use Rattle.skarvolm.specs.Calls.{between}
 use Rattle.axis_out.specs.Cells.{cell_from, cell_between}
 use Rattle.axis.proofs.cell.Kinds as cell-kinds
@@ -71,27 +74,30 @@ typed_axis (Sloped low high order factor) g =
 
 -- cell(axis, value)
 pub cell_one_off : Fitting cell-kinds.ps cell-kinds.r cell-reads.Post
-    (λ κs a y e. GoodsP κs cell-kinds.ps a → (c : ℕ) → y ≡ Cell c → NearOn a.0 a.1.0 c)
+    (λ κs a y e. GoodsP κs cell-kinds.ps a → (c : ℕ) → y ≡ Ok c → NearOn a.0 a.1.0 c)
 cell_one_off κs a y e p typed c h = one_off_record a.0 a.1.0 c (typed_axis a.0 (typed.0, tt)) (f64_of _ typed.1.0.1) (sym p ∙ h)
 
 -- the cell of a value on the axis of low, high and order, where its number is 0
 between_near : (low high value : Float) (order : ℕ) → IsF64 low → IsF64 high → IsF64 value
     → (read_cell (cell_between low high order value)).number ≡ 0 → NearOn (axis_of low high order) value (read_cell (cell_between low high order value)).value
-unfolding make_axis axis_by cell_from cell_of cell_by
-between_near low high value order low64 high64 value64 = by_axis (first_of (axis_tests low high order)) refl
+unfolding cell_from
+between_near low high value order low64 high64 value64 = by_axis (make_axis low high order) refl
   where
     axis : Axis
     axis = axis_of low high order
 
-    by_cell : (n : ℕ) → first_of (axis_tests low high order) ≡ 0 → first_of (cell_tests (made_up axis) (low_of axis) (high_of axis) value) ≡ n
-        → (read_cell (cell_by n (cell_on axis value))).number ≡ 0 → NearOn axis value (read_cell (cell_by n (cell_on axis value))).value
-    by_cell zero made is z = one_off_made low high value order (cell_on axis value) low64 high64 value64 made (rw is refl)
-    by_cell (suc n) made is z = absurd (omega arith)
+    by_cell : (found : Result ℕ Refusal) → first_of (axis_tests low high order) ≡ 0 → cell_of axis value ≡ found
+        → (read_cell found).number ≡ 0 → NearOn axis value (read_cell found).value
+    by_cell (Ok c) made is z = one_off_made low high value order c low64 high64 value64 made is
+    by_cell (Err r) made is z = let l = number_above_0 r in absurd (omega arith)
 
-    by_axis : (n : ℕ) → first_of (axis_tests low high order) ≡ n → (read_cell (cell_from (axis_by n axis) value)).number ≡ 0
-        → NearOn axis value (read_cell (cell_from (axis_by n axis) value)).value
-    by_axis zero made z = by_cell (first_of (cell_tests (made_up axis) (low_of axis) (high_of axis) value)) made refl z
-    by_axis (suc n) made z = absurd (omega arith)
+    by_axis : (made : Result Axis Refusal) → make_axis low high order ≡ made → (read_cell (cell_from made value)).number ≡ 0
+        → NearOn axis value (read_cell (cell_from made value)).value
+    by_axis (Ok a) is z =
+        let r = answered low high order a is in
+        subst (λ (a : Axis). (read_cell (cell_of a value)).number ≡ 0 → NearOn axis value (read_cell (cell_of a value)).value) r.1
+        (by_cell (cell_of axis value) r.0 refl) z
+    by_axis (Err r) is z = let l = number_above_0 r in absurd (omega arith)
 
 -- skarvolm_cell(low, high, order, value, cell)
 pub skarvolm_cell_one_off : Fitting skarvolm-cell-kinds.ps skarvolm-cell-kinds.r skarvolm-cell-reads.Post
@@ -103,26 +109,26 @@ skarvolm_cell_one_off κs a y e p typed h =
 
 -- index_2d(xs, ys, order, indices)
 pub index_2d_one_off : Fitting index-2d-kinds.ps index-2d-kinds.r index-2d-reads.Post
-    (λ κs a y e. AllF64 a.0.now → AllF64 a.1.0.now → y ≡ 0 → NearKnots2 a.0.now a.1.0.now a.1.1.0 e.1.1.1.0.now)
+    (λ κs a y e. AllF64 a.0.now → AllF64 a.1.0.now → number_in y ≡ 0 → NearKnots2 a.0.now a.1.0.now a.1.1.0 e.1.1.1.0.now)
 index_2d_one_off κs a y e p x64 y64 h =
     rw p.1 (one_off_index_2d a.0.now a.1.0.now a.1.1.0 a.1.1.1.0.now x64 y64 (sym p.0 ∙ h))
 
 -- index_2d_default(xs, ys, indices)
 pub index_2d_default_one_off : Fitting index-2d-default-kinds.ps index-2d-default-kinds.r index-2d-default-reads.Post
-    (λ κs a y e. AllF64 a.0.now → AllF64 a.1.0.now → y ≡ 0 → NearKnots2 a.0.now a.1.0.now default_order e.1.1.0.now)
+    (λ κs a y e. AllF64 a.0.now → AllF64 a.1.0.now → number_in y ≡ 0 → NearKnots2 a.0.now a.1.0.now default_order e.1.1.0.now)
 index_2d_default_one_off κs a y e p x64 y64 h =
     rw p.1 (one_off_index_2d a.0.now a.1.0.now default_order a.1.1.0.now x64 y64 (sym p.0 ∙ h))
 
 -- index_3d(xs, ys, zs, order, indices)
 pub index_3d_one_off : Fitting index-3d-kinds.ps index-3d-kinds.r index-3d-reads.Post
-    (λ κs a y e. AllF64 a.0.now → AllF64 a.1.0.now → AllF64 a.1.1.0.now → y ≡ 0
+    (λ κs a y e. AllF64 a.0.now → AllF64 a.1.0.now → AllF64 a.1.1.0.now → number_in y ≡ 0
     → NearKnots3 a.0.now a.1.0.now a.1.1.0.now a.1.1.1.0 e.1.1.1.1.0.now)
 index_3d_one_off κs a y e p x64 y64 z64 h =
     rw p.1 (one_off_index_3d a.0.now a.1.0.now a.1.1.0.now a.1.1.1.0 a.1.1.1.1.0.now x64 y64 z64 (sym p.0 ∙ h))
 
 -- index_3d_default(xs, ys, zs, indices)
 pub index_3d_default_one_off : Fitting index-3d-default-kinds.ps index-3d-default-kinds.r index-3d-default-reads.Post
-    (λ κs a y e. AllF64 a.0.now → AllF64 a.1.0.now → AllF64 a.1.1.0.now → y ≡ 0
+    (λ κs a y e. AllF64 a.0.now → AllF64 a.1.0.now → AllF64 a.1.1.0.now → number_in y ≡ 0
     → NearKnots3 a.0.now a.1.0.now a.1.1.0.now default_order e.1.1.1.0.now)
 index_3d_default_one_off κs a y e p x64 y64 z64 h =
     rw p.1 (one_off_index_3d a.0.now a.1.0.now a.1.1.0.now default_order a.1.1.1.0.now x64 y64 z64 (sym p.0 ∙ h))
@@ -144,7 +150,7 @@ skarvolm_index_3d_one_off κs a y e p x64 y64 z64 h =
 
 -- index_2d_on(xs, ys, xaxis, yaxis, order, indices)
 pub index_2d_on_one_off : Fitting index-2d-on-kinds.ps index-2d-on-kinds.r index-2d-on-reads.Post
-    (λ κs a y e. GoodsP κs index-2d-on-kinds.ps a → AllF64 a.0.now → AllF64 a.1.0.now → y ≡ 0
+    (λ κs a y e. GoodsP κs index-2d-on-kinds.ps a → AllF64 a.0.now → AllF64 a.1.0.now → number_in y ≡ 0
     → NearPoints2 a.0.now a.1.0.now a.1.1.0 a.1.1.1.0 a.1.1.1.1.0 e.1.1.1.1.1.0.now)
 index_2d_on_one_off κs a y e p typed x64 y64 h =
     let axes = typed.1.1 in
@@ -154,7 +160,7 @@ index_2d_on_one_off κs a y e p typed x64 y64 h =
 
 -- index_3d_on(xs, ys, zs, xaxis, yaxis, zaxis, order, indices)
 pub index_3d_on_one_off : Fitting index-3d-on-kinds.ps index-3d-on-kinds.r index-3d-on-reads.Post
-    (λ κs a y e. GoodsP κs index-3d-on-kinds.ps a → AllF64 a.0.now → AllF64 a.1.0.now → AllF64 a.1.1.0.now → y ≡ 0
+    (λ κs a y e. GoodsP κs index-3d-on-kinds.ps a → AllF64 a.0.now → AllF64 a.1.0.now → AllF64 a.1.1.0.now → number_in y ≡ 0
     → let b = a.1.1.1 in NearPoints3 a.0.now a.1.0.now a.1.1.0.now b.0 b.1.0 b.1.1.0 b.1.1.1.0 e.1.1.1.1.1.1.1.0.now)
 index_3d_on_one_off κs a y e p typed x64 y64 z64 h =
     let b = a.1.1.1 in
@@ -165,7 +171,7 @@ index_3d_on_one_off κs a y e p typed x64 y64 z64 h =
 
 -- index_2d_in(xs, ys, xextent, yextent, order, indices)
 pub index_2d_in_one_off : Fitting index-2d-in-kinds.ps index-2d-in-kinds.r index-2d-in-reads.Post
-    (λ κs a y e. GoodsP κs index-2d-in-kinds.ps a → AllF64 a.0.now → AllF64 a.1.0.now → y ≡ 0
+    (λ κs a y e. GoodsP κs index-2d-in-kinds.ps a → AllF64 a.0.now → AllF64 a.1.0.now → number_in y ≡ 0
     → let order = a.1.1.1.1.0 in NearPoints2 a.0.now a.1.0.now (axis_in a.1.1.0 order) (axis_in a.1.1.1.0 order) order e.1.1.1.1.1.0.now)
 index_2d_in_one_off κs a y e p typed x64 y64 h =
     let x = typed.1.1.0.1.1 in
@@ -176,7 +182,7 @@ index_2d_in_one_off κs a y e p typed x64 y64 h =
 
 -- index_3d_in(xs, ys, zs, xextent, yextent, zextent, order, indices)
 pub index_3d_in_one_off : Fitting index-3d-in-kinds.ps index-3d-in-kinds.r index-3d-in-reads.Post
-    (λ κs a y e. GoodsP κs index-3d-in-kinds.ps a → AllF64 a.0.now → AllF64 a.1.0.now → AllF64 a.1.1.0.now → y ≡ 0
+    (λ κs a y e. GoodsP κs index-3d-in-kinds.ps a → AllF64 a.0.now → AllF64 a.1.0.now → AllF64 a.1.1.0.now → number_in y ≡ 0
     → let b = a.1.1.1 in let order = b.1.1.1.0 in
     NearPoints3 a.0.now a.1.0.now a.1.1.0.now (axis_in b.0 order) (axis_in b.1.0 order) (axis_in b.1.1.0 order) order e.1.1.1.1.1.1.1.0.now)
 index_3d_in_one_off κs a y e p typed x64 y64 z64 h =

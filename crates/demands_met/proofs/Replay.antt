@@ -1,6 +1,7 @@
 -- REQUEST 12/14 of the functions: whatever fits the contract of a call for a replay has a number exactly as its tests say; a refused call leaves
 -- the slices as they were; in any other the ids in force meet demand 3 after each event, a refused event changes nothing, and each cell's
 -- weight at the end is its start plus the accepted amounts. Assumes nothing.
+use Rattle.rules.specs.Refusals.{number_in}
 use Rattle.rules.specs.Halving.{halving2, halving3}
 use Rattle.requests.specs.Replay.{ReplayDemand}
 use Rattle.demands.proofs.Replay.{replay_demand_2d, replay_demand_3d}
@@ -17,7 +18,7 @@ use Rattle.skarvolm.proofs.skarvolm_replay_3d.Reads as skarvolm-replay-3d-reads
 -- replay_2d(halving, weights, cells, amounts, answers, splits, ids)
 pub replay_2d_meets : Fitting replay-2d-kinds.ps replay-2d-kinds.r replay-2d-reads.Post
     (λ κs a y e. ReplayDemand (halving2 a.0) a.1.0.now a.1.1.0.now a.1.1.1.0.now a.1.1.1.1.0.now a.1.1.1.1.1.0.now a.1.1.1.1.1.1.0.now
-    (record { number = y; weights = e.1.0.now; answers = e.1.1.1.1.0.now; splits = e.1.1.1.1.1.0.now; ids = e.1.1.1.1.1.1.0.now }))
+    (record { number = number_in y; weights = e.1.0.now; answers = e.1.1.1.1.0.now; splits = e.1.1.1.1.1.0.now; ids = e.1.1.1.1.1.1.0.now }))
 replay_2d_meets κs a y e p =
     rw (p.0, p.1.0, p.1.1.0, p.1.1.1.0, p.1.1.1.1)
     (replay_demand_2d a.0 a.1.0.now a.1.1.0.now a.1.1.1.0.now a.1.1.1.1.0.now a.1.1.1.1.1.0.now a.1.1.1.1.1.1.0.now)
@@ -25,7 +26,7 @@ replay_2d_meets κs a y e p =
 -- replay_3d(halving, weights, cells, amounts, answers, splits, ids)
 pub replay_3d_meets : Fitting replay-3d-kinds.ps replay-3d-kinds.r replay-3d-reads.Post
     (λ κs a y e. ReplayDemand (halving3 a.0) a.1.0.now a.1.1.0.now a.1.1.1.0.now a.1.1.1.1.0.now a.1.1.1.1.1.0.now a.1.1.1.1.1.1.0.now
-    (record { number = y; weights = e.1.0.now; answers = e.1.1.1.1.0.now; splits = e.1.1.1.1.1.0.now; ids = e.1.1.1.1.1.1.0.now }))
+    (record { number = number_in y; weights = e.1.0.now; answers = e.1.1.1.1.0.now; splits = e.1.1.1.1.1.0.now; ids = e.1.1.1.1.1.1.0.now }))
 replay_3d_meets κs a y e p =
     rw (p.0, p.1.0, p.1.1.0, p.1.1.1.0, p.1.1.1.1)
     (replay_demand_3d a.0 a.1.0.now a.1.1.0.now a.1.1.1.0.now a.1.1.1.1.0.now a.1.1.1.1.1.0.now a.1.1.1.1.1.1.0.now)

@@ -1,20 +1,20 @@
 // Colours of parts.
-use printing::Buffer;
+use std::fmt;
 
-// Puts the colour of a part. The hue of one part is 137.508 degrees from that of the next, so that of a few parts any two are far apart. Of
+// The colour of a part. The hue of one part is 137.508 degrees from that of the next, so that of a few parts any two are far apart. Of
 // more parts those come near that are 5, 8, 13, 21 or 34 apart, by 32, 20, 12, 8 and 5 degrees; those differ in lightness, or at 21 in
 // saturation.
-pub fn put_colour(buffer: &mut Buffer, at: usize, part: u64) -> usize
-    ensures { Unit {0} }
-{
-    let n = part % 4096;
-    let a = printing::bytes(buffer, at, b"hsl(");
-    let b = printing::number(buffer, a, (215000 + n * 137508) / 1000 % 360);
-    let c = printing::byte(buffer, b, b',');
-    let d = printing::number(buffer, c, saturation(n));
-    let e = printing::bytes(buffer, d, b"%,");
-    let f = printing::number(buffer, e, lightness(n));
-    printing::bytes(buffer, f, b"%)")
+#[derive(Clone, Copy)]
+pub struct Colour(pub u64);
+
+impl fmt::Display for Colour {
+    fn fmt<W: fmt::Write>(&self, f: &mut fmt::Formatter<W>) -> fmt::Result {
+        let part = self.0 % 4096;
+        let hue = (215000 + part * 137508) / 1000 % 360;
+        let saturation = saturation(part);
+        let lightness = lightness(part);
+        write!(f, "hsl({hue},{saturation}%,{lightness}%)")
+    }
 }
 
 // How much of its hue a part shows, in percent.

@@ -1,92 +1,101 @@
-// The first and the last of what is joined: a square around the one and a diamond around the other, with their names, in tenths of a pixel.
-use printing::Buffer;
+// The first and the last of what is joined: a square around the one and a diamond around the other, with their names.
+use std::fmt;
 
 // A place in a picture.
-#[derive(Clone, Copy)]
+#[derive(Clone, Copy, Debug, PartialEq, Eq)]
 pub struct Place {
     pub x: u64,
     pub y: u64,
 }
 
-// Puts a shape around a place.
-fn put_shape(buffer: &mut Buffer, at: usize, place: Place, shape: &[u8]) -> usize {
-    let a = printing::bytes(buffer, at, b"<path stroke='black' stroke-width='14' d='M");
-    let b = printing::number(buffer, a, place.x);
-    let c = printing::byte(buffer, b, b' ');
-    let d = printing::number(buffer, c, place.y);
-    let e = printing::bytes(buffer, d, shape);
-    printing::bytes(buffer, e, b"'/>\n")
+// Both ends, and the middle of the picture, on the side of which their names stand. What is alone is first and has no other for its last.
+#[derive(Clone, Copy)]
+pub struct Ends {
+    pub first: Place,
+    pub last: Option<Place>,
+    pub middle: Place,
 }
 
-// Puts where a name begins, or ends where its place is right of the middle.
-fn put_beside(buffer: &mut Buffer, at: usize, x: u64, middle: u64) -> usize {
-    if x < middle {
-        return printing::number(buffer, at, std::num::wrapping_add_u64(x, 160));
+impl Ends {
+    // A name beside a place.
+    fn named(self, name: &str, place: Place) -> Name<'_> {
+        Name {
+            name,
+            place,
+            middle: self.middle.x,
+        }
     }
-    let a = printing::number(buffer, at, std::num::wrapping_sub_u64(x, 160));
-    printing::bytes(buffer, a, b"' text-anchor='end")
+
+    // Where the last one's name stands: at its place, or a line nearer to the middle where that of the first is near.
+    fn name_of_last(self, last: Place) -> Place {
+        let first = self.first;
+        if 1200 <= first.x.abs_diff(last.x) || 160 <= first.y.abs_diff(last.y) {
+            return last;
+        }
+        let y = if last.y < self.middle.y {
+            first.y.saturating_add(160)
+        } else {
+            first.y.saturating_sub(160)
+        };
+        Place { x: last.x, y }
+    }
 }
 
-// Puts a name beside a place.
-fn put_name(buffer: &mut Buffer, at: usize, x: u64, y: u64, middle: u64, name: &[u8]) -> usize {
-    let a = printing::bytes(buffer, at, b"<text x='");
-    let b = put_beside(buffer, a, x, middle);
-    let c = printing::bytes(buffer, b, b"' y='");
-    let d = printing::number(buffer, c, std::num::wrapping_add_u64(y, 45));
-    let e = printing::bytes(
-        buffer,
-        d,
-        b"' font-size='130' fill='black' stroke='white' stroke-width='40' paint-order='stroke'>",
-    );
-    let f = printing::bytes(buffer, e, name);
-    printing::bytes(buffer, f, b"</text>\n")
+impl fmt::Display for Ends {
+    fn fmt<W: fmt::Write>(&self, f: &mut fmt::Formatter<W>) -> fmt::Result {
+        let first = self.first;
+        let last = self.last.unwrap_or(first);
+        let square = Shape(first, "m-80-80h160v160h-160z");
+        let diamond = Shape(last, "m0-130l130 130l-130 130l-130-130z");
+        write!(f, "{square}{diamond}")?;
+        if self.last.is_none() {
+            let both = self.named("first and last", first);
+            return write!(f, "{both}");
+        }
+        let one = self.named("first", first);
+        let other = self.named("last", self.name_of_last(last));
+        write!(f, "{one}{other}")
+    }
 }
 
-// Whether two numbers are less than so much apart.
-fn near(a: u64, b: u64, apart: u64) -> bool {
-    if std::num::wrapping_add_u64(a, apart) <= b {
-        return false;
+// A shape around a place.
+#[derive(Clone, Copy)]
+struct Shape(Place, &'static str);
+
+impl fmt::Display for Shape {
+    fn fmt<W: fmt::Write>(&self, f: &mut fmt::Formatter<W>) -> fmt::Result {
+        let Shape(Place { x, y }, path) = *self;
+        writeln!(
+            f,
+            "<path stroke='black' stroke-width='14' d='M{x} {y}{path}'/>"
+        )
     }
-    a < std::num::wrapping_add_u64(b, apart)
 }
 
-// How high the last one's name stands: at its place, or a line nearer to the middle where that of the first is near.
-fn height(first: Place, last: Place, middle: u64) -> u64 {
-    if !near(first.x, last.x, 1200) {
-        return last.y;
-    }
-    if !near(first.y, last.y, 160) {
-        return last.y;
-    }
-    if last.y < middle {
-        return std::num::wrapping_add_u64(first.y, 160);
-    }
-    std::num::wrapping_sub_u64(first.y, 160)
+// A name beside a place: behind it, or before it where the place is right of the middle.
+#[derive(Clone, Copy)]
+struct Name<'a> {
+    name: &'a str,
+    place: Place,
+    middle: u64,
 }
 
-// Puts both, and their names on the side of the middle; where there is one alone it has both.
-pub fn put(
-    buffer: &mut Buffer,
-    at: usize,
-    alone: bool,
-    first: Place,
-    last: Place,
-    middle: Place,
-) -> usize
-    ensures { Unit {0} }
-{
-    let a = put_shape(buffer, at, first, b"m-80-80h160v160h-160z");
-    let b = put_shape(buffer, a, last, b"m0-130l130 130l-130 130l-130-130z");
-    if alone {
-        return put_name(buffer, b, first.x, first.y, middle.x, b"first and last");
+impl fmt::Display for Name<'_> {
+    fn fmt<W: fmt::Write>(&self, f: &mut fmt::Formatter<W>) -> fmt::Result {
+        let Name {
+            name,
+            place: Place { x, y },
+            middle,
+        } = *self;
+        let (start, anchor) = if x < middle {
+            (x.saturating_add(160), "")
+        } else {
+            (x.saturating_sub(160), "' text-anchor='end")
+        };
+        let base = y.saturating_add(45);
+        writeln!(
+            f,
+            "<text x='{start}{anchor}' y='{base}' font-size='130' fill='black' stroke='white' stroke-width='40' paint-order='stroke'>{name}</text>"
+        )
     }
-    let c = put_name(buffer, b, first.x, first.y, middle.x, b"first");
-    put_name(
-        buffer,
-        c,
-        last.x,
-        height(first, last, middle.y),
-        middle.x,
-        b"last",
-    )
 }

@@ -1,61 +1,57 @@
 // The head of a picture, and what its titles say of files and numbers.
-use crate::texts::put_text;
-use console::lines::part;
-use printing::Buffer;
-use words::same;
+use crate::texts::Text;
+use std::fmt;
 
-// Puts the head of a picture of so many pixels, and its ground.
-pub fn put_head(buffer: &mut Buffer, at: usize, width: u64, height: u64) -> usize
-    ensures { Unit {0} }
-{
-    let a = printing::bytes(
-        buffer,
-        at,
-        b"<svg xmlns='http://www.w3.org/2000/svg' width='",
-    );
-    let b = printing::number(buffer, a, width);
-    let c = printing::bytes(buffer, b, b"' height='");
-    let d = printing::number(buffer, c, height);
-    let e = printing::bytes(buffer, d, b"' viewBox='0 0 ");
-    let f = printing::number(buffer, e, width);
-    let g = printing::byte(buffer, f, b' ');
-    let h = printing::number(buffer, g, height);
-    printing::bytes(
-        buffer,
-        h,
-        b"' font-family='sans-serif' font-size='13'>\n<rect width='100%' height='100%' fill='white'/>\n",
-    )
+// The head of a picture of so many pixels, and its ground.
+#[derive(Clone, Copy)]
+pub struct Head {
+    pub width: u64,
+    pub height: u64,
 }
 
-// A path's name behind the folders.
-fn base(path: &[u8]) -> &[u8] {
-    let mut start: usize = 0;
-    for i in 0..path.len() {
-        if path[i] == b'/' {
-            start = std::num::wrapping_add_usize(i, 1);
+impl fmt::Display for Head {
+    fn fmt<W: fmt::Write>(&self, f: &mut fmt::Formatter<W>) -> fmt::Result {
+        let Head { width, height } = *self;
+        write!(
+            f,
+            "<svg xmlns='http://www.w3.org/2000/svg' width='{width}' height='{height}' viewBox='0 0 {width} {height}' font-family='sans-serif' font-size='13'>\n<rect width='100%' height='100%' fill='white'/>\n"
+        )
+    }
+}
+
+// The name of a file without its folders, of which at most so many letters.
+#[derive(Clone, Copy)]
+pub struct FileName<'a> {
+    pub path: &'a [u8],
+    pub most: usize,
+}
+
+impl fmt::Display for FileName<'_> {
+    fn fmt<W: fmt::Write>(&self, f: &mut fmt::Formatter<W>) -> fmt::Result {
+        if self.path == b"-".as_slice() {
+            return f.write_str("standard input");
         }
+        let mut names = self.path.rsplit(|b| *b == b'/');
+        let text = names.next().unwrap_or(b"");
+        let name = Text {
+            text,
+            most: self.most,
+        };
+        write!(f, "{name}")
     }
-    part(path, start, path.len())
 }
 
-// Puts the name of a file, of which at most so many letters.
-pub fn put_file(buffer: &mut Buffer, at: usize, path: &[u8], most: usize) -> usize
-    ensures { Unit {0} }
-{
-    if same(path, b"-") {
-        return printing::bytes(buffer, at, b"standard input");
-    }
-    put_text(buffer, at, base(path), most)
+// How many there are of what has this name.
+#[derive(Clone, Copy)]
+pub struct Count<'a> {
+    pub n: u64,
+    pub name: &'a str,
 }
 
-// Puts how many there are of what has this name.
-pub fn put_count(buffer: &mut Buffer, at: usize, n: u64, name: &[u8]) -> usize
-    ensures { Unit {0} }
-{
-    let a = printing::number(buffer, at, n);
-    let b = printing::bytes(buffer, a, name);
-    if n == 1 {
-        return b;
+impl fmt::Display for Count<'_> {
+    fn fmt<W: fmt::Write>(&self, f: &mut fmt::Formatter<W>) -> fmt::Result {
+        let Count { n, name } = *self;
+        let end = if n == 1 { "" } else { "s" };
+        write!(f, "{n} {name}{end}")
     }
-    printing::byte(buffer, b, b's')
 }

@@ -7,7 +7,7 @@ use lib.Arith.{digits_div, digits_mod}
 use lib.Bits.{bit_and, bit_or, and_mask, or_shifted}
 use lib.Pow.{shl-shr}
 use Rattle.rules.specs.Curve.{level, encode, end, group_entry, plane}
-use Rattle.curve_laws.proofs.Parts.{part_lt, part_mod}
+use Rattle.curve_laws.proofs.Parts.{part_lt}
 use Rattle.curve_laws.proofs.RoundTrip.{encode_same, encode_lt}
 use Rattle.curve_laws.proofs.Permutes.{plane_permutes}
 use Rattle.curve_laws.proofs.Turns.{at_most}
@@ -18,12 +18,12 @@ abbrev quadrants : ℕ → ℕ → ℕ
 quadrants n k = level 2 k n
 
 -- what an entry says of a state and the lowest six levels of n
-module _ (n state entry : ℕ) (h : state < plane.states) (w : entry ≡ group_entry plane 6 (4096 * state + bit_and n 4095)) where
+module _ (n state entry : ℕ) (h : state < plane.states) (w : entry ≡ group_entry plane 6 (4096 * state + n % 4096)) where
   low_lt : encode plane 6 state (quadrants n) < 4096
   low_lt = encode_lt plane plane_permutes 6 state (quadrants n) h (λ j. part_lt 2 (2 * j) n)
 
   said : entry ≡ end plane 6 state (quadrants n) * 4096 + encode plane 6 state (quadrants n)
-  said = w ∙ ap (λ (x : ℕ). group_entry plane 6 (4096 * state + x)) (and_mask n 12) ∙ group_said plane 6 state n
+  said = w ∙ group_said plane 6 state n
 
   end_is : entry / 4096 ≡ end plane 6 state (quadrants n)
   end_is = ap (λ (x : ℕ). x / 4096) said ∙ digits_div (end plane 6 state (quadrants n)) low_lt
@@ -36,7 +36,7 @@ module _ (n state entry : ℕ) (h : state < plane.states) (w : entry ≡ group_e
 
 -- a turn: six levels more
 pub group_next : (zorder left state entry hilbert N : ℕ) → 6 ≤ left → state < plane.states
-    → entry ≡ group_entry plane 6 (4096 * state + bit_and (zorder / 2 ^ (2 * (left - 6))) 4095)
+    → entry ≡ group_entry plane 6 (4096 * state + zorder / 2 ^ (2 * (left - 6)) % 4096)
     → N < 2 ^ 64 → hilbert * 2 ^ (2 * left) + encode plane left state (quadrants zorder) ≡ N
     → bit_or (hilbert * 4096 % 2 ^ 64) (bit_and entry 4095) * 2 ^ (2 * (left - 6)) + encode plane (left - 6) (entry / 4096) (quadrants zorder) ≡ N
 group_next zorder left state entry hilbert N p h w l i =
@@ -57,19 +57,18 @@ group_next zorder left state entry hilbert N p h w l i =
 
 -- the last group, filled up with zero bits
 pub group_last : (zorder left state entry hilbert N : ℕ) → left ≤ 6 → state < plane.states
-    → entry ≡ group_entry plane 6 (4096 * state + bit_and (zorder * 2 ^ (12 - 2 * left) % 2 ^ 64) 4095)
+    → entry ≡ group_entry plane 6 (4096 * state + zorder * 2 ^ (12 - 2 * left) % 4096)
     → N < 2 ^ 64 → hilbert * 2 ^ (2 * left) + encode plane left state (quadrants zorder) ≡ N
     → bit_or (hilbert * 2 ^ (2 * left) % 2 ^ 64) (bit_and entry 4095 / 2 ^ (12 - 2 * left)) ≡ N
 group_last zorder left state entry hilbert N p h w l i =
     let r : ℕ = 6 - left in
-    let n : ℕ = zorder * 2 ^ (12 - 2 * left) % 2 ^ 64 in
+    let n : ℕ = zorder * 2 ^ (12 - 2 * left) in
     let q : left + r ≡ 6 = omega arith in
     let u : 12 - 2 * left ≡ 2 * r = omega arith in
     let E : ℕ = encode plane left state (quadrants zorder) in
     let v : (j : ℕ) → j < left → level 2 (j + r) n ≡ level 2 j zorder =
     λ j g.
-    part_mod 2 (2 * (j + r)) 64 (zorder * 2 ^ (12 - 2 * left)) (omega arith)
-    ∙ ap (λ (x : ℕ). level 2 (j + r) (zorder * 2 ^ x)) u
+    ap (λ (x : ℕ). level 2 (j + r) (zorder * 2 ^ x)) u
     ∙ sym (level_up 2 j r (zorder * 2 ^ (2 * r)))
     ∙ ap (level 2 j) (shl-shr zorder (2 * r))
     in

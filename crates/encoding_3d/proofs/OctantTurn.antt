@@ -10,27 +10,27 @@ use Rattle.curve_laws.proofs.Permutes.{row, space_permutes}
 use Rattle.curve_laws.proofs.Turns.{encode_turn, at_most}
 
 -- config is 8 * state
-place : (zorder config : ℕ) → config % 8 ≡ 0 → bit_or config (bit_and zorder 7) ≡ 8 * (config / 8) + zorder % 8
-place zorder config m =
+place : (config octant : ℕ) → config % 8 ≡ 0 → octant < 8 → bit_or config octant ≡ 8 * (config / 8) + octant
+place config octant m o =
     let c : config ≡ config / 8 * 8 = omega arith in
     let s : config / 8 * 8 ≡ 8 * (config / 8) = omega arith in
-    ap₂ bit_or c (and_mask zorder 3) ∙ or_shifted (config / 8) 3 (zorder % 8) (omega arith) ∙ ap (λ (n : ℕ). n + zorder % 8) s
+    ap (λ (n : ℕ). bit_or n octant) c ∙ or_shifted (config / 8) 3 octant o ∙ ap (λ (n : ℕ). n + octant) s
 
-pub place_lt : (zorder config : ℕ) → config % 8 ≡ 0 → config < 96 → bit_or config (bit_and zorder 7) < 96
-place_lt zorder config m l = omega (arith, place zorder config m)
+pub place_lt : (config octant : ℕ) → config % 8 ≡ 0 → config < 96 → octant < 8 → bit_or config octant < 96
+place_lt config octant m l o = omega (arith, place config octant m o)
 
 module _ (zorder left config : ℕ) (p : 0 < left) (m : config % 8 ≡ 0) (l : config < 96) where
   octant : ℕ
   octant = level 3 (left - 1) zorder
 
-  module _ (entry : ℕ) (w : entry ≡ get_or octant_table (bit_or config (bit_and (zorder / 2 ^ (3 * (left - 1))) 7)) 0) where
+  module _ (entry : ℕ) (w : entry ≡ get_or octant_table (bit_or config (level 3 (left - 1) zorder)) 0) where
     next_is : entry / 8 ≡ space.next (config / 8) octant
     unfolding space octant
-    next_is = ap (λ (n : ℕ). n / 8) (w ∙ ap (λ (n : ℕ). get_or octant_table n 0) (place (zorder / 2 ^ (3 * (left - 1))) config m))
+    next_is = ap (λ (n : ℕ). n / 8) (w ∙ ap (λ (n : ℕ). get_or octant_table n 0) (place config (level 3 (left - 1) zorder) m (part_lt 3 (3 * (left - 1)) zorder)))
 
     digit_is : entry % 8 ≡ space.digit (config / 8) octant
     unfolding space octant
-    digit_is = ap (λ (n : ℕ). n % 8) (w ∙ ap (λ (n : ℕ). get_or octant_table n 0) (place (zorder / 2 ^ (3 * (left - 1))) config m))
+    digit_is = ap (λ (n : ℕ). n % 8) (w ∙ ap (λ (n : ℕ). get_or octant_table n 0) (place config (level 3 (left - 1) zorder) m (part_lt 3 (3 * (left - 1)) zorder)))
 
     entry_lt : entry / 8 < 12
     unfolding space octant

@@ -1,19 +1,22 @@
-// From a cell of the 3D curve to its index, level by level, by the table of 01.
+// From a cell of the 3D curve to its index, level by level, by the table of 01. The plane's walk is another one, for speed: it takes six levels at
+// once, of which a table would have 12 * 8^6 entries here.
 //
 // A caller may rely on what curve_laws says of `encode3`: `decode_encode_3d`, `encode_decode_3d` (Demand2), `no_two_cells_share_an_index`;
-// each promise has one answer (proofs/Once.antt, `encode_3d_only` and so on).
+// each promise has one answer (proofs/Once.antt, `encode_3d_only` and so on). The functions of 2D and of 3D stay apart, since docs/PROMISES.md and
+// these laws name each.
 #![tactic(auto)]
 
 ghost use Rattle.std.specs.Prelude.{◌≡◌, ◌%◌, ◌≤◌, ◌<◌, get_or};
-ghost use Rattle.std.specs.Int.Bits.{bit_and, bit_or};
+ghost use Rattle.std.specs.Int.Bits.{bit_or};
 ghost use Rattle.rules.specs.Refusals.{top3};
 ghost use Rattle.rules.specs.Curve.{level, encode, octant_table, space, encode3, default_order};
 
-use rules::{Coded, DEFAULT_ORDER, REFUSED_COORDINATE, REFUSED_ORDER, TOP_ORDER_3D};
+use cell_tests::tested;
+use rules::{DEFAULT_ORDER, Refusal, TOP_ORDER_3D};
 
 // At 8 * state + octant: 8 * (next state) + digit.
 #[rattlefmt::skip]
-const LUT: [u8; 96] = [
+static LUT: [u8; 96] = [
     0b0110_000, 0b0100_001, 0b0011_011, 0b0100_010, 0b0101_111, 0b1001_110, 0b0011_100, 0b1001_101,
     0b1000_010, 0b0011_101, 0b0110_011, 0b0110_100, 0b1000_001, 0b0011_110, 0b1001_000, 0b0111_111,
     0b1001_100, 0b1011_111, 0b1001_011, 0b0011_000, 0b0110_101, 0b0110_110, 0b1010_010, 0b1010_001,
@@ -28,12 +31,12 @@ const LUT: [u8; 96] = [
     0b0010_110, 0b0110_111, 0b0010_101, 0b1000_100, 0b0111_001, 0b0101_000, 0b0111_010, 0b1000_011,
 ];
 
-// What the table says of config, which is 8 * state, and the lowest level of zorder.
-fn octant_entry(lut: &[u8; 96], config: u64, zorder: u64) -> u8
-    requires { (lut.now ≡ octant_table) × (config % 8 ≡ 0) × (config < 96) }
-    ensures { result ≡ get_or octant_table (bit_or config (bit_and zorder 7)) 0 }
+// What the table says of config, which is 8 * state, and an octant.
+fn octant_entry(lut: &[u8; 96], config: u64, octant: u64) -> u8
+    requires { (lut.now ≡ octant_table) × (config % 8 ≡ 0) × (config < 96) × (octant < 8) }
+    ensures { result ≡ get_or octant_table (bit_or config octant) 0 }
 {
-    lut[(config | (zorder & 7)) as usize]
+    lut[(config | octant) as usize]
 }
 
 // The index whose octants are the levels of zorder, one level after the other, from the top.
@@ -41,41 +44,30 @@ fn walk_3d(lut: &[u8; 96], zorder: u64, order: u32) -> u64
     requires { (lut.now ≡ octant_table) × (order ≤ top3) }
     ensures { result ≡ encode space order 0 (λ k. level 3 k zorder) }
 {
-    let mut left = order;
     let mut config: u64 = 0;
     let mut hilbert: u64 = 0;
-    while 0 < left {
-        left -= 1;
-        let entry = octant_entry(lut, config, zorder >> (3 * left)) as u64;
+    // The octants to come, the next of them in the topmost places.
+    let mut octants = zorder.checked_shl(64 - 3 * order).unwrap_or(0);
+    for _level in (0..order).rev() {
+        let entry = octant_entry(lut, config, octants >> 61) as u64;
         hilbert = (hilbert << 3) | (entry & 7);
         config = entry & !7;
+        octants <<= 3;
     }
     hilbert
 }
 
-// The index of the cell (x, y, z), or the number of the first test that refuses it.
-pub fn encode_3d(x: u64, y: u64, z: u64, order: u32) -> Coded
+// The index of the cell (x, y, z), or why it is refused, by the first test that does.
+#[tactic(auto, using(curve_laws::proofs::Refusals::refused_3d))]
+pub fn encode_3d(x: u64, y: u64, z: u64, order: u32) -> Result<u64, Refusal>
     ensures { result ≡ encode3 x y z order }
 {
-    if TOP_ORDER_3D < order {
-        return Coded::Refused(REFUSED_ORDER);
-    }
-    let side = 1u64 << order;
-    if side <= x {
-        return Coded::Refused(REFUSED_COORDINATE);
-    }
-    if side <= y {
-        return Coded::Refused(REFUSED_COORDINATE);
-    }
-    if side <= z {
-        return Coded::Refused(REFUSED_COORDINATE);
-    }
-    let lut = LUT;
-    Coded::Index(walk_3d(&lut, spread::zorder_3d(x, y, z, order), order))
+    tested([x, y, z], order, TOP_ORDER_3D)?;
+    Ok(walk_3d(&LUT, spread::zorder_3d(x, y, z, order), order))
 }
 
 // The same at the default order.
-pub fn encode_3d_default(x: u64, y: u64, z: u64) -> Coded
+pub fn encode_3d_default(x: u64, y: u64, z: u64) -> Result<u64, Refusal>
     ensures { result ≡ encode3 x y z default_order }
 {
     encode_3d(x, y, z, DEFAULT_ORDER)

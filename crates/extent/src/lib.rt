@@ -12,7 +12,7 @@ ghost use Rattle.rules.specs.Axis.{widen, extent_of};
 
 use rules::Extent;
 
-// The low end of points, once x is among them: replaced only by a strictly smaller value.
+// The low end of points, once x is among them: replaced only by a strictly smaller value. It is not `f64::min`, which may give either zero.
 fn lower(low: f64, x: f64) -> f64
     ensures { result ≡ cond (lt x low) x low }
 {
@@ -41,21 +41,18 @@ fn widen_by(extent: Extent, x: f64) -> Extent
 pub fn extent_of(xs: &[f64]) -> Extent
     ensures { result ≡ extent_of xs.now }
 {
-    if xs.len() == 0 {
+    let Some((&first, others)) = xs.split_first() else {
         return Extent {
             low: 0.0,
             high: 0.0,
         };
-    }
-    let first = xs[0];
+    };
     let mut extent = Extent {
         low: first,
         high: first,
     };
-    let mut i = 1;
-    while i < xs.len() {
-        extent = widen_by(extent, xs[i]);
-        i += 1;
+    for x in others {
+        extent = widen_by(extent, *x);
     }
     extent
 }

@@ -1,20 +1,19 @@
 -- Every field lies in its text and goes on from where it was looked for: so does what has been met of it, after every byte. Assumes nothing.
-use Prim.Native.Nat.{ℕ, ◌+◌, ◌≤◌, ◌<◌}
-use mathlib.Core.Path.{◌≡◌, refl, sym, ◌∙◌}
-use mathlib.Core.Bool.{Bool, true, false, true≢false, cond}
-use mathlib.Core.List.{List}
-use native.Mathlib.Omega.{arith}
-use lib.ListN.{get_or, length}
-use lib.Dec.{eqb, ltb, leb}
+use Rattle.std.proofs.Common.{◌≡◌, ℕ, ◌+◌, ◌≤◌, ◌<◌, Bool, true, false, cond, ◌&&◌, List, get_or, length, drop, refl, sym, subst, ◌∙◌, eqb, leb, ltb, arith}
+use Rattle.std.proofs.lemmas.List.{drop_more, drop_all}
+use Rattle.std.specs.declared.ops.ControlFlow.{ControlFlow}
+use Rattle.std.specs.declared.ops.ControlFlow.TheVariants.{Continue, Break}
+use mathlib.Core.Bool.{true≢false}
 use borrow.Author.Tests.{ltb-true, leb-true, leb-false}
 use Rattle.separators.specs.Bytes.{is_line_end, is_hash, is_quote}
-use Rattle.separators.specs.Machines.{at_end}
-use Rattle.separators.proofs.Machines.{goes_on, ends, holds_at_end}
-use Rattle.fields.specs.Fields.{is_blank, parts, bare_byte, bare_step, bare_end, bare_at, open_byte, behind_byte, field_byte, field_step, field_end, field_at}
+use Rattle.separators.specs.Machines.{after}
+use Rattle.separators.proofs.Machines.{holds_at_end}
+use Rattle.fields.specs.Fields.{is_blank, parts, bare_step, bare_end, bare_at, open_byte, behind_byte, field_step, field_end, field_at}
 use Rattle.fields.specs.declared.Field.{Field}
 use Rattle.fields.specs.declared.Field.TheVariants as field
-use Rattle.fields.specs.declared.Bare.{Bare}
-use Rattle.fields.specs.declared.Bare.TheVariants.{Going, Ended}
+use Rattle.fields.specs.declared.Quotes.{Quotes}
+use Rattle.fields.specs.declared.Found.{Found}
+use Rattle.fields.specs.declared.Found.TheVariants as found
 use Rattle.fields.specs.declared.Met.{Met}
 use Rattle.fields.specs.declared.Met.TheVariants as met
 
@@ -37,107 +36,103 @@ cases P true x y f g = f refl
 cases P false x y f g = g refl
 
 -- a field without quotes that begins at a place, before byte i
-abbrev BareFits : ℕ → ℕ → Bare → Type 0
-BareFits start i (Going end) = (start ≤ end) × (end ≤ i)
-BareFits start i (Ended end next) = (start ≤ end) × (end ≤ next) × (start < next) × (next ≤ i)
+abbrev BareFits : ℕ → ℕ → ControlFlow (ℕ × ℕ) ℕ → Type 0
+BareFits start i (Continue end) = (start ≤ end) × (end ≤ i)
+BareFits start i (Break stop) = (start ≤ stop.0) × (stop.0 ≤ stop.1) × (start < stop.1) × (stop.1 ≤ i)
+
+-- a # behind a blank stands behind the field's end
+behind_end : (p : Bool) (end at : ℕ) → (p && ltb end at) ≡ true → end < at
+behind_end true end at e = ltb-true end at e
+behind_end false end at e = absurd (true≢false (sym e))
 
 module _ (separator : ℕ) (t : List ℕ) where
-  bare_byte_fits : (start end i b : ℕ) → (is_line_end b ≡ true → start < i) → start ≤ end → end ≤ i → BareFits start (i + 1) (bare_byte separator end b i (i + 1))
+  bare_byte_fits : (start end i b : ℕ) → (is_line_end b ≡ true → start < i) → start ≤ end → end ≤ i → BareFits start (i + 1) (bare_step separator end b i)
   bare_byte_fits start end i b line p q =
-      cases (BareFits start (i + 1)) (is_line_end b) (Ended end i) _ (λ e. let l = line e in (p, q, l, omega arith))
-      (λ _. cases (BareFits start (i + 1)) (parts separator b) (Ended end (i + 1)) _ (λ _. (p, omega arith, omega arith, omega arith))
-      (λ _. cases (BareFits start (i + 1)) (is_blank separator b) (Going end) _ (λ _. (p, omega arith))
-      (λ _. cases (BareFits start (i + 1)) (is_hash b) (cond (ltb end i) (Ended end i) (Going (i + 1))) (Going (i + 1))
-      (λ _. cases (BareFits start (i + 1)) (ltb end i) (Ended end i) (Going (i + 1)) (λ e. let l = ltb-true end i e in (p, q, omega arith, omega arith)) (λ _. (omega arith, omega arith)))
-      (λ _. (omega arith, omega arith)))))
+      cases (BareFits start (i + 1)) (is_line_end b) (Break (end, i)) _ (λ e. let l = line e in (p, q, l, omega arith))
+      (λ _. cases (BareFits start (i + 1)) (parts separator b) (Break (end, i + 1)) _ (λ _. (p, omega arith, omega arith, omega arith))
+      (λ _. cases (BareFits start (i + 1)) (is_blank separator b) (Continue end) _ (λ _. (p, omega arith))
+      (λ _. cases (BareFits start (i + 1)) (is_hash b && ltb end i) (Break (end, i)) (Continue (i + 1))
+      (λ e. let l = behind_end (is_hash b) end i e in (p, q, omega arith, omega arith)) (λ _. (omega arith, omega arith)))))
 
-  bare_step_fits : (start i : ℕ) (m : Bare) → start < i → BareFits start i m → BareFits start (i + 1) (bare_step separator m (get_or t i 0) i)
-  unfolding bare_step
-  bare_step_fits start i (Going end) l h = bare_byte_fits start end i (get_or t i 0) (λ _. l) h.0 h.1
-  bare_step_fits start i (Ended end next) l h = (h.0, h.1, h.2, omega arith)
-
-  bare_end_goes_on : (at start n : ℕ) (m : Bare) → at ≤ start → start < n → BareFits start n m → GoesOn at n (bare_end n start m)
-  unfolding bare_end
-  bare_end_goes_on at start n (Going end) p l h = (p, h.0, h.1, omega arith, omega arith)
-  bare_end_goes_on at start n (Ended end next) p l h = (p, h.0, h.1, omega arith, h.3)
+  bare_end_goes_on : (at start n : ℕ) (r : ControlFlow (ℕ × ℕ) ℕ) → at ≤ start → start < n → BareFits start n r → GoesOn at n (bare_end n start r)
+  bare_end_goes_on at start n (Continue end) p l h = (p, h.0, h.1, omega arith, omega arith)
+  bare_end_goes_on at start n (Break stop) p l h = (p, h.0, h.1, omega arith, h.3)
 
   -- its first byte does not end it
-  bare_first_fits : (start : ℕ) → is_line_end (get_or t start 0) ≡ false → BareFits start (start + 1) (bare_step separator (Going start) (get_or t start 0) start)
-  unfolding bare_step
+  bare_first_fits : (start : ℕ) → is_line_end (get_or t start 0) ≡ false → BareFits start (start + 1) (bare_step separator start (get_or t start 0) start)
   bare_first_fits start line = bare_byte_fits start start start (get_or t start 0) (λ e. absurd (true≢false (sym e ∙ line))) (omega arith) (omega arith)
 
-  bare_at_fits : (start : ℕ) → start < length t → is_line_end (get_or t start 0) ≡ false → BareFits start (length t) (at_end (bare_step separator) (Going start) t start)
-  bare_at_fits start l line =
-      rw (goes_on (bare_step separator) t (Going start) start l)
-      (holds_at_end (bare_step separator) t (λ i m. (start < i) × BareFits start i m) (λ i m h. (omega arith, bare_step_fits start i m h.0 h.1)) _ (start + 1) (omega arith) (omega arith, bare_first_fits start line)).1
-
   bare_goes_on : (at start : ℕ) → at ≤ start → start < length t → is_line_end (get_or t start 0) ≡ false → GoesOn at (length t) (bare_at separator t start)
-  unfolding bare_at
-  bare_goes_on at start p l line = bare_end_goes_on at start (length t) (at_end (bare_step separator) (Going start) t start) p l (bare_at_fits start l line)
+  bare_goes_on at start p l line =
+      let fits = holds_at_end (bare_step separator) t (λ i r. (start < i) × BareFits start i r) (λ i stop h. (omega arith, (h.1.0, h.1.1, h.1.2, omega arith)))
+      (λ i end h. (omega arith, bare_byte_fits start end i (get_or t i 0) (λ _. h.0) h.1.0 h.1.1)) (bare_step separator start (get_or t start 0) start) (start + 1)
+      (omega arith) (omega arith, bare_first_fits start line) in
+      rw (drop_more t start 0 l) (bare_end_goes_on at start (length t) _ p l fits.1)
 
   -- what has been met before byte i, where a field was looked for from at on; no bare field begins at a line's end
-  abbrev Fits : ℕ → ℕ → Met → Type 0
-  Fits at i met.Open = Unit {0}
-  Fits at i met.Comment = at < i
-  Fits at i (met.Quoted start first) = (at ≤ start) × (start < first) × (first ≤ i) × (is_line_end (get_or t start 0) ≡ false)
-  Fits at i (met.Closed start first end) = (at ≤ start) × (start < first) × (first ≤ end) × (end < i) × (is_line_end (get_or t start 0) ≡ false)
-  Fits at i (met.Behind start first end) = (at ≤ start) × (start < first) × (first ≤ end) × (end < i) × (is_line_end (get_or t start 0) ≡ false)
-  Fits at i (met.Bare start) = (at ≤ start) × (start < i) × (is_line_end (get_or t start 0) ≡ false)
-  Fits at i (met.Done f) = GoesOn at i f
+  abbrev InQuotes : ℕ → ℕ → Quotes → Type 0
+  InQuotes at i q = (at ≤ q.start) × (q.start < q.first) × (q.first ≤ q.end) × (q.end < i) × (is_line_end (get_or t q.start 0) ≡ false)
+
+  abbrev Fits : ℕ → ℕ → ControlFlow Found Met → Type 0
+  Fits at i (Continue met.Open) = Unit {0}
+  Fits at i (Continue met.Comment) = at < i
+  Fits at i (Continue (met.Quoted start first)) = (at ≤ start) × (start < first) × (first ≤ i) × (is_line_end (get_or t start 0) ≡ false)
+  Fits at i (Continue (met.Closed q)) = InQuotes at i q
+  Fits at i (Continue (met.Behind q)) = InQuotes at i q
+  Fits at i (Break (found.Bare start)) = (at ≤ start) × (start < i) × (is_line_end (get_or t start 0) ≡ false)
+  Fits at i (Break (found.Field f)) = GoesOn at i f
+
+  still_fits : (at i : ℕ) (x : Found) → Fits at i (Break x) → Fits at (i + 1) (Break x)
+  still_fits at i (found.Bare start) h = (h.0, omega arith, h.2)
+  still_fits at i (found.Field f) h = longer at i f h
 
   open_byte_fits : (at i : ℕ) → at ≤ i → Fits at (i + 1) (open_byte separator (get_or t i 0) i (i + 1))
   open_byte_fits at i p =
       let b : ℕ = get_or t i 0 in
-      cases (Fits at (i + 1)) (is_line_end b) (met.Done (field.LineEnd (i + 1))) _ (λ _. (omega arith, omega arith))
-      (λ line. cases (Fits at (i + 1)) (is_blank separator b) met.Open _ (λ _. tt)
-      (λ _. cases (Fits at (i + 1)) (is_hash b) met.Comment _ (λ _. omega arith)
-      (λ _. cases (Fits at (i + 1)) (eqb b separator) (met.Done (field.Word i i (i + 1))) _ (λ _. (p, omega arith, omega arith, omega arith, omega arith))
-      (λ _. cases (Fits at (i + 1)) (is_quote b) (met.Quoted i (i + 1)) (met.Bare i) (λ _. (p, omega arith, omega arith, line)) (λ _. (p, omega arith, line))))))
+      cases (Fits at (i + 1)) (is_line_end b) (Break (found.Field (field.LineEnd (i + 1)))) _ (λ _. (omega arith, omega arith))
+      (λ line. cases (Fits at (i + 1)) (is_blank separator b) (Continue met.Open) _ (λ _. tt)
+      (λ _. cases (Fits at (i + 1)) (is_hash b) (Continue met.Comment) _ (λ _. omega arith)
+      (λ _. cases (Fits at (i + 1)) (eqb b separator) (Break (found.Field (field.Word i i (i + 1)))) _ (λ _. (p, omega arith, omega arith, omega arith, omega arith))
+      (λ _. cases (Fits at (i + 1)) (is_quote b) (Continue (met.Quoted i (i + 1))) (Break (found.Bare i)) (λ _. (p, omega arith, omega arith, line)) (λ _. (p, omega arith, line))))))
 
-  behind_byte_fits : (at i start first end : ℕ) → Fits at i (met.Behind start first end) → Fits at (i + 1) (behind_byte separator start first end (get_or t i 0) i (i + 1))
-  behind_byte_fits at i start first end h =
+  behind_byte_fits : (at i : ℕ) (q : Quotes) → InQuotes at i q → Fits at (i + 1) (behind_byte separator q (get_or t i 0) i (i + 1))
+  behind_byte_fits at i q h =
       let b : ℕ = get_or t i 0 in
-      cases (Fits at (i + 1)) (is_line_end b) (met.Done (field.Word first end i)) _ (λ _. (omega arith, omega arith, omega arith, omega arith, omega arith))
-      (λ _. cases (Fits at (i + 1)) (parts separator b) (met.Done (field.Word first end (i + 1))) _ (λ _. (omega arith, omega arith, omega arith, omega arith, omega arith))
-      (λ _. cases (Fits at (i + 1)) (is_blank separator b) (met.Behind start first end) _ (λ _. (h.0, h.1, h.2, omega arith, h.4))
-      (λ _. cases (Fits at (i + 1)) (is_hash b) (met.Done (field.Word first end i)) (met.Bare start) (λ _. (omega arith, omega arith, omega arith, omega arith, omega arith)) (λ _. (h.0, omega arith, h.4)))))
+      cases (Fits at (i + 1)) (is_line_end b) (Break (found.Field (field.Word q.first q.end i))) _ (λ _. (omega arith, omega arith, omega arith, omega arith, omega arith))
+      (λ _. cases (Fits at (i + 1)) (parts separator b) (Break (found.Field (field.Word q.first q.end (i + 1)))) _ (λ _. (omega arith, omega arith, omega arith, omega arith, omega arith))
+      (λ _. cases (Fits at (i + 1)) (is_blank separator b) (Continue (met.Behind q)) _ (λ _. (h.0, h.1, h.2, omega arith, h.4))
+      (λ _. cases (Fits at (i + 1)) (is_hash b) (Break (found.Field (field.Word q.first q.end i))) (Break (found.Bare q.start)) (λ _. (omega arith, omega arith, omega arith, omega arith, omega arith))
+      (λ _. (h.0, omega arith, h.4)))))
 
-  step_fits : (at i : ℕ) (m : Met) → at ≤ i → Fits at i m → Fits at (i + 1) (field_step separator m (get_or t i 0) i)
-  unfolding field_byte
+  step_fits : (at i : ℕ) (m : Met) → at ≤ i → Fits at i (Continue m) → Fits at (i + 1) (field_step separator m (get_or t i 0) i)
   step_fits at i met.Open p h = open_byte_fits at i p
   step_fits at i met.Comment p h =
-      cases (Fits at (i + 1)) (is_line_end (get_or t i 0)) (met.Done (field.Comment (i + 1))) met.Comment (λ _. (omega arith, omega arith)) (λ _. omega arith)
+      cases (Fits at (i + 1)) (is_line_end (get_or t i 0)) (Break (found.Field (field.Comment (i + 1)))) (Continue met.Comment) (λ _. (omega arith, omega arith)) (λ _. omega arith)
   step_fits at i (met.Quoted start first) p h =
-      cases (Fits at (i + 1)) (is_quote (get_or t i 0)) (met.Closed start first i) _ (λ _. (h.0, h.1, h.2, omega arith, h.3))
-      (λ _. cases (Fits at (i + 1)) (is_line_end (get_or t i 0)) (met.Bare start) (met.Quoted start first) (λ _. (h.0, omega arith, h.3)) (λ _. (h.0, h.1, omega arith, h.3)))
-  step_fits at i (met.Closed start first end) p h =
-      cases (Fits at (i + 1)) (is_quote (get_or t i 0)) (met.Quoted start first) _ (λ _. (h.0, h.1, omega arith, h.4)) (λ _. behind_byte_fits at i start first end h)
-  step_fits at i (met.Behind start first end) p h = behind_byte_fits at i start first end h
-  step_fits at i (met.Bare start) p h = (h.0, omega arith, h.2)
-  step_fits at i (met.Done f) p h = longer at i f h
+      cases (Fits at (i + 1)) (is_quote (get_or t i 0)) (Continue (met.Closed (record { start = start; first = first; end = i }))) _ (λ _. (h.0, h.1, h.2, omega arith, h.3))
+      (λ _. cases (Fits at (i + 1)) (is_line_end (get_or t i 0)) (Break (found.Bare start)) (Continue (met.Quoted start first)) (λ _. (h.0, omega arith, h.3)) (λ _. (h.0, h.1, omega arith, h.3)))
+  step_fits at i (met.Closed q) p h =
+      cases (Fits at (i + 1)) (is_quote (get_or t i 0)) (Continue (met.Quoted q.start q.first)) _ (λ _. (h.0, h.1, omega arith, h.4)) (λ _. behind_byte_fits at i q h)
+  step_fits at i (met.Behind q) p h = behind_byte_fits at i q h
 
-  end_goes_on : (at : ℕ) (m : Met) → at < length t → Fits at (length t) m → GoesOn at (length t) (field_end separator t m)
-  unfolding field_end
-  end_goes_on at met.Open l h = tt
-  end_goes_on at met.Comment l h = (l, omega arith)
-  end_goes_on at (met.Quoted start first) l h = bare_goes_on at start h.0 (omega arith) h.3
-  end_goes_on at (met.Closed start first end) l h = (omega arith, h.2, omega arith, l, omega arith)
-  end_goes_on at (met.Behind start first end) l h = (omega arith, h.2, omega arith, l, omega arith)
-  end_goes_on at (met.Bare start) l h = bare_goes_on at start h.0 h.1 h.2
-  end_goes_on at (met.Done f) l h = h
-
-  at_end_fits : (at : ℕ) → at < length t → Fits at (length t) (at_end (field_step separator) met.Open t at)
-  at_end_fits at l =
-      (holds_at_end (field_step separator) t (λ i m. (at ≤ i) × Fits at i m) (λ i m h. (omega arith, step_fits at i m h.0 h.1)) met.Open at (omega arith) (omega arith, tt)).1
+  end_goes_on : (at : ℕ) (r : ControlFlow Found Met) → at < length t → Fits at (length t) r → GoesOn at (length t) (field_end separator t r)
+  end_goes_on at (Continue met.Open) l h = tt
+  end_goes_on at (Continue met.Comment) l h = (l, omega arith)
+  end_goes_on at (Continue (met.Quoted start first)) l h = bare_goes_on at start h.0 (omega arith) h.3
+  end_goes_on at (Continue (met.Closed q)) l h = (omega arith, h.2, omega arith, l, omega arith)
+  end_goes_on at (Continue (met.Behind q)) l h = (omega arith, h.2, omega arith, l, omega arith)
+  end_goes_on at (Break (found.Bare start)) l h = bare_goes_on at start h.0 h.1 h.2
+  end_goes_on at (Break (found.Field f)) l h = h
 
   -- behind the text's end there is no field
   none : (at : ℕ) → length t ≤ at → field_at separator t at ≡ field.End
-  unfolding field_at field_end
-  none at h = rw (ends (field_step separator) t met.Open at h)
+  none at h = rw (drop_all at t h) refl
 
   within : (at : ℕ) → at < length t → GoesOn at (length t) (field_at separator t at)
-  unfolding field_at
-  within at l = end_goes_on at (at_end (field_step separator) met.Open t at) l (at_end_fits at l)
+  within at l =
+      end_goes_on at (after (field_step separator) (Continue met.Open) (drop at t) at) l
+      (holds_at_end (field_step separator) t (λ i r. (at ≤ i) × Fits at i r) (λ i x h. (omega arith, still_fits at i x h.1)) (λ i m h. (omega arith, step_fits at i m h.0 h.1))
+      (Continue met.Open) at (omega arith) (omega arith, tt)).1
 
   pub field_goes_on : (at : ℕ) → GoesOn at (length t) (field_at separator t at)
   field_goes_on at = either (leb (length t) at) refl
@@ -145,3 +140,7 @@ module _ (separator : ℕ) (t : List ℕ) where
       either : (b : Bool) → leb (length t) at ≡ b → GoesOn at (length t) (field_at separator t at)
       either true e = rw (none at (leb-true (length t) at e)) tt
       either false e = within at (leb-false (length t) at e)
+
+  -- so the next field begins behind where this one was looked for, and not behind the text
+  pub word_goes_on : (at start end next : ℕ) → field.Word start end next ≡ field_at separator t at → (at < next) × (next ≤ length t)
+  word_goes_on at start end next e = let h : GoesOn at (length t) (field.Word start end next) = subst (GoesOn at (length t)) (sym e) (field_goes_on at) in (h.3, h.4)

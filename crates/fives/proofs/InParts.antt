@@ -1,6 +1,6 @@
 -- A number in parts: times a factor, its size, and what is left below its highest part. Assumes nothing.
 use Rattle.std.proofs.Common.{◌≡◌, ℕ, ◌+◌, ◌-◌, ◌*◌, ◌/◌, ◌%◌, ◌^◌, ◌<◌, ◌≤◌, sym, ap, ◌∙◌, le_trans, le_of_eq, lt_of_lt_of_le, le-add_right, add-zero, add_assoc, mul-le-mul_right, zero-lt-suc, mul_assoc, mul_comm, add-mul, mul-le-mul, one-mul, lt_of_not-le, div-add-mod', zero-mul, mul-add, div-le_self, not-le_of_lt, le-mul_of_pos_right, arith, pow_mono, pow-add}
-use native.Mathlib.Nat.{pow-le-pow_right}
+use native.Mathlib.Nat.{one-le-pow, pow-le-pow_right}
 use lib.Arith.{digits_lt}
 
 one_place : (x r b : ℕ) → (x + r / b) * b + r % b ≡ x * b + r
@@ -43,9 +43,6 @@ shift_below a n x A e h = lt_of_not-le (λ (g : 158 ≤ n). not-le_of_lt h (le_t
 pub nine_more : (a n x y : ℕ) → x ≡ a * 2 ^ n → y ≡ 512 * x → y ≡ a * 2 ^ (n + 9)
 nine_more a n x y e h = h ∙ ap (λ (z : ℕ). 512 * z) e ∙ mul_comm 512 (a * 2 ^ n) ∙ mul_assoc a (2 ^ n) 512 ∙ ap (λ (z : ℕ). a * z) (sym (pow-add 2 n 9))
 
-pub five_more : (a n x y : ℕ) → x ≡ a * 5 ^ n → y ≡ 5 * x → y ≡ a * 5 ^ (n + 1)
-five_more a n x y e h = h ∙ ap (λ (z : ℕ). 5 * z) e ∙ mul_comm 5 (a * 5 ^ n) ∙ mul_assoc a (5 ^ n) 5 ∙ ap (λ (z : ℕ). a * z) (sym (pow-add 5 n 1))
-
 -- what is left below the highest part
 pub left : (h s f m l : ℕ) → (h * s + m) * f + l ≡ h * (s * f) + (m * f + l)
 left h s f m l = ap (λ (z : ℕ). z + l) (add-mul (h * s) m f ∙ ap (λ (z : ℕ). z + m * f) (mul_assoc h s f)) ∙ add_assoc (h * (s * f)) (m * f) l
@@ -70,9 +67,9 @@ two_factors k f s h j = rw (h, j) (sym (pow-add 5 (k - k / 2) (k / 2)) ∙ ap (�
     halves : (k : ℕ) → k - k / 2 + k / 2 ≡ k
     halves k = omega arith
 
--- digits times a power of five, in parts of 32 binary digits
+-- a power of five
 pub fives_below : (k : ℕ) → k ≤ 22 → 5 ^ k ≤ 2 ^ 52
 fives_below k h = let few : 5 ^ k ≤ 5 ^ 22 = pow-le-pow_right (zero-lt-suc 4) h in omega arith
 
-pub high_below : (d k h m l : ℕ) → d < 2 ^ 64 → k ≤ 22 → (h * 2 ^ 32 + m) * 2 ^ 32 + l ≡ d * 5 ^ k → h < 2 ^ 54
-high_below d k h m l D K e = let all : d ≤ 2 ^ 64 = omega arith in let few : d * 5 ^ k ≤ 2 ^ 64 * 2 ^ 52 = mul-le-mul all (fives_below k K) in omega arith
+pub fives_pos : (k : ℕ) → 0 < 5 ^ k
+fives_pos k = one-le-pow k 5 (zero-lt-suc 4)

@@ -3,7 +3,7 @@ use Rattle.std.specs.Prelude.{◌≡◌, ℕ, ◌+◌, ◌*◌, ◌^◌, ◌<◌
 use Rattle.std.specs.Float.{binary64}
 use Rattle.std.specs.Float.Ieee.Exact.{HasValue}
 use Rattle.std.specs.Float.Ieee.Scale.{grid}
-use Rattle.fives.specs.declared.Parts.{Parts}
+use Rattle.fives.specs.declared.parts.Parts.{Parts}
 use Rattle.fives.specs.declared.Marked.{Marked}
 
 -- 2 ^ up / 2 ^ down, exactly
@@ -11,16 +11,8 @@ pub record Power (up down : ℕ) (x : Float) : Type 0 where
   pub value : HasValue x false (2 ^ up) (2 ^ down)
 
 -- the number that stands in parts
-abbrev pub number_of : ℕ → ℕ → Parts → ℕ
-number_of first second p = (p.high * second + p.middle) * first + p.low
-
--- each part lies below its base
-pub record Parted (first second : ℕ) (p : Parts) : Type 0 where
-  pub low : p.low < first
-  pub middle : p.middle < second
-  pub high : p.high < 2 ^ 64
-  pub first_few : first ≤ 2 ^ 52
-  pub second_few : second ≤ 2 ^ 52
+abbrev pub number_of : Parts → ℕ
+number_of p = (p.high * p.second + p.middle) * p.first + p.low
 
 -- a whole number that rounds as a fraction does
 unfoldable pub Alike : ℕ → ℕ → ℕ → Type 0

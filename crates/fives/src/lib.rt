@@ -8,18 +8,14 @@
 ghost use Rattle.std.specs.Prelude.{◌≡◌, ◌+◌, ◌*◌, ◌^◌, ◌<◌, ◌≤◌};
 ghost use Rattle.std.specs.Float.{binary64};
 ghost use Rattle.std.specs.Float.Ieee.{round};
-ghost use Rattle.fives.specs.Fives.{Power, Parted, Stands, number_of};
+ghost use Rattle.fives.specs.Fives.{Power, Stands, number_of};
 
-// A whole number in parts: (high * second + middle) * first + low, where `first` and `second` are known.
-#[derive(Drop)]
-pub struct Parts {
-    high: u64,
-    middle: u64,
-    low: u64,
-}
+mod parts;
+
+pub use parts::Parts;
 
 // A whole number that stands for a fraction, 2^shift times as large.
-#[derive(Drop)]
+#[derive(Clone, Copy, Debug, PartialEq, Eq)]
 pub struct Marked {
     whole: u64,
     shift: u32,
@@ -33,16 +29,13 @@ fn power_of_two(up: u32, down: u32) -> f64
     f64::from_bits(4503599627370496 * (1023 + up - down) as u64)
 }
 
-// 5 to the power k.
+// 5 to the power k: a number and no type of powers up to 22, since `over_by_fives` halves one up to 44.
+#[tactic(auto, using(crate::proofs::InParts::fives_below, crate::proofs::InParts::fives_pos))]
 fn power_of_five(k: u32) -> u64
     requires { k ≤ 22 }
     ensures { (result ≡ 5 ^ k) × (0 < result) × (result ≤ 2 ^ 52) }
 {
-    let mut r: u64 = 1;
-    for i in 0..k {
-        r = 5 * r;
-    }
-    r
+    5u64.pow(k)
 }
 
 // A whole number as the f64 nearest to it, with a sign.
@@ -57,29 +50,33 @@ pub fn signed(negative: bool, whole: u64) -> f64
 }
 
 // A number in parts, times a small factor.
-fn times(parts: Parts, factor: u64, first: u64, second: u64) -> Parts
-    requires { Parted first second parts × (parts.high < 2 ^ 54) × (factor ≤ 512) }
-    ensures { Parted first second result × (number_of first second result ≡ factor * number_of first second parts) }
+fn times(parts: Parts, factor: u64) -> Parts
+    requires { (parts.high < 2 ^ 54) × (factor ≤ 512) }
+    ensures number { number_of result ≡ factor * number_of parts }
+    ensures bases { (result.first ≡ parts.first) × (result.second ≡ parts.second) }
 {
     let low = factor * parts.low;
-    let middle = factor * parts.middle + low / first;
+    let middle = factor * parts.middle + low / parts.first;
     Parts {
-        high: factor * parts.high + middle / second,
-        middle: middle % second,
-        low: low % first,
+        first: parts.first,
+        second: parts.second,
+        high: factor * parts.high + middle / parts.second,
+        middle: middle % parts.second,
+        low: low % parts.first,
     }
 }
 
 // A number over first * second, times 2^shift, without its fraction, from 2^54 on; made odd where there is a fraction. It lies
-// between the same two even numbers as the quotient, and rounds as the quotient does.
-fn leading_digits(number: Parts, first: u64, second: u64) -> Marked
-    requires { Parted first second number × (0 < number_of first second number) }
-    ensures { Stands (number_of first second number) (second * first) result }
+// between the same two even numbers as the quotient, and rounds as the quotient does. A `while`: it counts nothing and ends where the
+// digits are reached.
+fn leading_digits(number: Parts) -> Marked
+    requires { 0 < number_of number }
+    ensures { Stands (number_of number) (number.second * number.first) result }
 {
     let mut parts = number;
     let mut shift: u32 = 0;
     while parts.high < 18014398509481984 {
-        parts = times(parts, 512, first, second);
+        parts = times(parts, 512);
         shift += 9;
     }
     let whole = parts.high;
@@ -95,17 +92,18 @@ fn leading_digits(number: Parts, first: u64, second: u64) -> Marked
 // digits * 5^k in parts of 32 binary digits.
 fn times_power_of_five(digits: u64, k: u32) -> Parts
     requires { k ≤ 22 }
-    ensures { Parted (2 ^ 32) (2 ^ 32) result × (number_of (2 ^ 32) (2 ^ 32) result ≡ digits * 5 ^ k) }
+    ensures number { number_of result ≡ digits * 5 ^ k }
+    ensures bases { (result.first ≡ 2 ^ 32) × (result.second ≡ 2 ^ 32) }
 {
-    let mut parts = Parts {
-        high: 0,
-        middle: digits / 4294967296,
-        low: digits % 4294967296,
-    };
-    for i in 0..k {
-        parts = times(parts, 5, 4294967296, 4294967296);
+    let product = u128::from(digits) * u128::from(power_of_five(k));
+    let rest = product / 4294967296;
+    Parts {
+        first: 4294967296,
+        second: 4294967296,
+        high: (rest / 4294967296) as u64,
+        middle: (rest % 4294967296) as u64,
+        low: (product % 4294967296) as u64,
     }
-    parts
 }
 
 // digits / 10^k by way of digits / 5^k.
@@ -116,12 +114,13 @@ pub fn over_by_fives(negative: bool, digits: u64, k: u32) -> f64
     let first = power_of_five(k / 2);
     let second = power_of_five(k - k / 2);
     let rest = digits / first;
-    let parts = Parts {
+    let marked = leading_digits(Parts {
+        first,
+        second,
         high: rest / second,
         middle: rest % second,
         low: digits % first,
-    };
-    let marked = leading_digits(parts, first, second);
+    });
     signed(negative, marked.whole) * power_of_two(0, marked.shift + k)
 }
 
@@ -130,6 +129,6 @@ pub fn times_by_fives(negative: bool, digits: u64, k: u32) -> f64
     requires { (0 < digits) × (k ≤ 22) }
     ensures { result ≡ round binary64 negative (digits * 10 ^ k) 1 }
 {
-    let marked = leading_digits(times_power_of_five(digits, k), 4294967296, 4294967296);
+    let marked = leading_digits(times_power_of_five(digits, k));
     signed(negative, marked.whole) * power_of_two(64 + k, marked.shift)
 }

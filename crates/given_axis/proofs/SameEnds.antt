@@ -4,16 +4,18 @@ use Prim.Native.Nat.{ℕ, zero, suc, ◌≤◌}
 use native.Mathlib.Nat.{le_refl}
 use native.Mathlib.Omega.{arith}
 use mathlib.Core.Path.{◌≡◌, refl}
-use mathlib.Core.Bool.{Bool, false}
+use mathlib.Core.Bool.{Bool, true, false, cond}
 use mathlib.Core.List.{List, [], ◌∷◌}
 use lib.Dec.{lit≤}
 use lib.ListN.{length, take, drop}
 use lib.Ieee.{Float}
 use borrow.Author.Tests.{ltb-false}
+use Rattle.std.specs.Prelude.{Err}
 use Rattle.rules.specs.Sums.{any}
-use Rattle.rules.specs.Refusals.{Test, test, first_of, top2, top3, order_over, no_points, lengths_off, value_unfit, axis_thin, reversed, axis_tests, axis_by, slice_by}
+use Rattle.rules.specs.Refusals.{Test, test, first_of, top2, top3, order_over, no_points, lengths_off, value_unfit, axis_thin, reversed, axis_tests, answer_by, slice_by}
 use Rattle.rules.specs.Axis.{make_axis, low_of, high_of}
 use Rattle.rules.specs.Knots.{filed_by}
+use Rattle.rules.specs.declared.refusal.Refusal.TheVariants.{Order, NoPoints, Lengths, Value, Thin, Outside}
 use Rattle.rules.specs.declared.Axis.{Axis}
 use Rattle.rules.specs.declared.Extent.{Extent}
 use Rattle.laws.proofs.Any.{neither}
@@ -37,12 +39,17 @@ module _ (order : ℕ) where
   axis_ends e = let ends = ends_of e.low e.high order in (ends.0, ends.1)
 
   record_ends : (e : Extent) → (low_of (record_in e order) ≡ e.low) × (high_of (record_in e order) ≡ e.high)
-  unfolding make_axis axis_by record_by
-  record_ends e = go (first_of (axis_tests e.low e.high order))
+  unfolding make_axis record_by
+  record_ends e = go (axis_tests e.low e.high order)
     where
-      go : (n : ℕ) → let a = record_by (axis_by n (axis_in e order)) e order in (low_of a ≡ e.low) × (high_of a ≡ e.high)
-      go zero = axis_ends e
-      go (suc n) = (refl, refl)
+      go : (ts : List Test) → let a = record_by (answer_by ts (axis_in e order)) e order in (low_of a ≡ e.low) × (high_of a ≡ e.high)
+      go [] = axis_ends e
+      go (t ∷ ts) = either t.passes (go ts)
+        where
+          either : (b : Bool) → (let a = record_by (answer_by ts (axis_in e order)) e order in (low_of a ≡ e.low) × (high_of a ≡ e.high))
+              → let a = record_by (cond b (Err t.refusal) (answer_by ts (axis_in e order))) e order in (low_of a ≡ e.low) × (high_of a ≡ e.high)
+          either true p = (refl, refl)
+          either false p = p
 
   -- a record is the axis where no test of its ends passes
   record_made : (e : Extent) → order ≤ top2 → any value_unfit (e.low ∷ e.high ∷ []) ≡ false → reversed e.low e.high ≡ false → axis_thin e.low e.high ≡ false
@@ -85,12 +92,12 @@ module _ (most order n : ℕ) (few : most ≤ top2) (lengths : List ℕ) (ss : L
   -- the tests of the shape and of the ends, as tests of low and high
   abbrev early : List Test
   early =
-      test (order_over most order) 1
-      ∷ test (no_points n) 4
-      ∷ test (lengths_off n lengths) 5
-      ∷ test (any (λ s. any value_unfit (s.extent.low ∷ s.extent.high ∷ [])) ss) 6
-      ∷ test (any (λ s. reversed s.extent.low s.extent.high) ss) 8
-      ∷ test (any (λ s. axis_thin s.extent.low s.extent.high) ss) 7 ∷ []
+      test (order_over most order) Order
+      ∷ test (no_points n) NoPoints
+      ∷ test (lengths_off n lengths) Lengths
+      ∷ test (any (λ s. any value_unfit (s.extent.low ∷ s.extent.high ∷ [])) ss) Value
+      ∷ test (any (λ s. reversed s.extent.low s.extent.high) ss) Outside
+      ∷ test (any (λ s. axis_thin s.extent.low s.extent.high) ss) Thin ∷ []
 
   abbrev called : (Extent → Axis) → List Test
   called f = on_tests most order n lengths (given_by f ss)
@@ -105,7 +112,7 @@ module _ (most order n : ℕ) (few : most ≤ top2) (lengths : List ℕ) (ss : L
   -- where none does the records are the axes
   passed_early : first_of early ≡ 0 → AllMade order ss
   passed_early e =
-      let none = none_passes early tt e in
+      let none = none_passes early e in
       let fits : order ≤ top2 = omega (arith, ltb-false most order none.0) in
       all_made order ss fits none.1.1.1.0 none.1.1.1.1.0 none.1.1.1.1.1.0
 

@@ -12,6 +12,7 @@ use lib.Ieee.{Float}
 use borrow.Author.Tests.{eqb-false, eq-eqb, ltb-false}
 use Rattle.rules.specs.Sums.{any}
 use Rattle.rules.specs.Refusals.{Test, test, first_of, top2, top3, nought, value_unfit, axis_thin, reversed, outside, index_tests, lengths_off, order_over, no_points}
+use Rattle.rules.specs.declared.refusal.Refusal.TheVariants.{Order, NoPoints, Lengths, Value, Thin}
 use Rattle.rules.specs.Axis.{low_of, high_of, order_of, extent_of}
 use Rattle.rules.specs.Knots.{filed_by, some_unfit, some_thin, thin_over, axis_over, knot, index_all2, index_all3}
 use Rattle.laws.proofs.Any.{none, none_at, length_fits}
@@ -79,7 +80,7 @@ module _ (order : ℕ) where
 
   -- so a thin axis alone can be refused
   asked_over : (axes : List (List Float)) → order ≤ top2 → ((i : ℕ) → i < length axes → 0 < length (get_or axes i [])) → some_unfit axes ≡ false
-      → first_of (asked_of (over_all axes) (questions order)) ≡ first_of (test (some_thin axes) 7 ∷ [])
+      → first_of (asked_of (over_all axes) (questions order)) ≡ first_of (test (some_thin axes) Thin ∷ [])
   unfolding asked_of questions some_unfit some_thin
   asked_over axes few some fit = go (some_thin axes) refl
     where
@@ -101,7 +102,7 @@ module _ (order : ℕ) where
       all_within : some_thin axes ≡ false → any (λ g. any (outside (low_of g.axis) (high_of g.axis)) g.points) (over_all axes) ≡ false
       all_within e = none_over (λ g. any (outside (low_of g.axis) (high_of g.axis)) g.points) axes (λ i h. within order _ (some i h) (fit_at i h) few (none_at thin_over [] axes e i h))
 
-      go : (thin : Bool) → some_thin axes ≡ thin → first_of (asked_of (over_all axes) (questions order)) ≡ first_of (test (some_thin axes) 7 ∷ [])
+      go : (thin : Bool) → some_thin axes ≡ thin → first_of (asked_of (over_all axes) (questions order)) ≡ first_of (test (some_thin axes) Thin ∷ [])
       go true e = rw (fit_ends, ordered, all_as_thin axes, e)
       go false e = rw (fit_ends, ordered, all_as_thin axes, all_own e, fit_points, all_within e)
 
@@ -109,11 +110,11 @@ module _ (order : ℕ) where
 module _ (most order n : ℕ) (few : most ≤ top2) (lengths : List ℕ) (axes : List (List Float)) (fit : some_unfit axes ≡ false) (as_many : lengths_off n lengths ≡ false → (i : ℕ) → i < length axes → length (get_or axes i []) ≡ n) where
   -- the tests of the order and of the lengths
   abbrev shape : List Test
-  shape = test (order_over most order) 1 ∷ test (no_points n) 4 ∷ test (lengths_off n lengths) 5 ∷ []
+  shape = test (order_over most order) Order ∷ test (no_points n) NoPoints ∷ test (lengths_off n lengths) Lengths ∷ []
 
-  on_axes_lem : first_of shape ≡ 0 → first_of (asked_of (over_all order axes) (questions order)) ≡ first_of (test (some_thin axes) 7 ∷ [])
+  on_axes_lem : first_of shape ≡ 0 → first_of (asked_of (over_all order axes) (questions order)) ≡ first_of (test (some_thin axes) Thin ∷ [])
   on_axes_lem e =
-      let p = none_passes shape tt e in
+      let p = none_passes shape e in
       let order_few : order ≤ top2 = omega (arith, ltb-false most order p.0) in
       asked_over order axes order_few (λ i h. let l = as_many p.1.1.0 i h in omega (arith, pos_of_ne-zero (eqb-false n 0 p.1.0))) fit
 
@@ -122,11 +123,11 @@ module _ (most order n : ℕ) (few : most ≤ top2) (lengths : List ℕ) (axes :
   same_number = go (first_of shape) refl
     where
       behind : List Test
-      behind = test (some_unfit axes) 6 ∷ test (some_thin axes) 7 ∷ []
+      behind = test (some_unfit axes) Value ∷ test (some_thin axes) Thin ∷ []
 
       go : (k : ℕ) → first_of shape ≡ k → first_of (shape ++ behind) ≡ first_of (shape ++ asked_of (over_all order axes) (questions order))
       go zero e =
-          let passed = none_passes shape tt e in
+          let passed = none_passes shape e in
           first_later shape behind passed ∙ rw fit (sym (on_axes_lem e)) ∙ sym (first_later shape (asked_of (over_all order axes) (questions order)) passed)
       go (suc k) e = first_earlier shape behind k e ∙ sym (first_earlier shape (asked_of (over_all order axes) (questions order)) k e)
 

@@ -1,4 +1,3 @@
 pub mod Places
 pub mod OneAxis
-pub mod Calls
 pub mod Once

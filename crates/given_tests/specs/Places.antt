@@ -8,9 +8,9 @@ abbrev pub first_place : List Test → ℕ
 first_place [] = 0
 first_place (t ∷ ts) = refuse t.passes 0 (suc (first_place ts))
 
--- the same of what is asked of one axis
-abbrev pub place_of : Given → ℕ → ℕ
-place_of g order = first_place (asked_of (g ∷ []) (questions order))
+-- the same of what is asked of several axes
+abbrev pub place : ℕ → List Given → ℕ
+place order axes = first_place (asked_of axes (questions order))
 
 -- the questions' numbers in order (proofs/Places.antt, `number_at_the_earliest`), and the one at a place; 0 behind the last
 abbrev pub question_numbers : List ℕ

@@ -1,115 +1,108 @@
-// What is asked of an axis that is given and of its points, one axis at a time, inside: `given_2d` and `given_3d` call it.
+// What is asked of axes that are given and of their points, inside: `knots_on` calls it.
 //
-//   0   6   an end of the axis is unfit
-//   1   8   low is above high
-//   2   7   the axis is thin
-//   3   8   its record is made up, or of another order than the call's
-//   4   6   a coordinate is unfit
-//   5   8   a coordinate lies outside low to high
+//   Value     an end of an axis is unfit
+//   Outside   low is above high
+//   Thin      an axis is thin
+//   Outside   its record is made up, or of another order than the call's
+//   Value     a coordinate is unfit
+//   Outside   a coordinate lies outside low to high
 //
-// The first column is the place of a question, the second its number. A call asks each question of all axes before the next, so that its
-// number is that of the earliest place at which an axis passes (proofs/Places.antt, `number_at_the_earliest`). An axis that passes none takes
-// its points (specs/Takes.antt of points).
+// A call asks each question of all axes before the next, so that its refusal is that of the earliest question that passes of some axis
+// (proofs/Places.antt, `number_at_the_earliest`). Axes of which none passes take their points (specs/Takes.antt of points).
 #![tactic(auto)]
 
-ghost use Rattle.std.specs.Prelude.{◌≡◌, false, min, length};
+ghost use Rattle.std.specs.Prelude.{◌≡◌, ◌∷◌, [], false, map, All, length, Ok};
 ghost use Rattle.rules.specs.Sums.{any};
-ghost use Rattle.rules.specs.Refusals.{outside};
+ghost use Rattle.rules.specs.Refusals.{value_unfit, reversed, axis_thin, outside, answer_by};
 ghost use Rattle.rules.specs.Axis.{low_of, high_of, make_axis};
-ghost use Rattle.rules.specs.declared.AxisAnswer.TheVariants.{Made};
-ghost use Rattle.knots_given.specs.Given.{on, foreign};
-ghost use Rattle.points.specs.Takes.{Takes};
-ghost use Rattle.given_tests.specs.Places.{place_of, number_at_place};
+ghost use Rattle.knots_given.specs.Given.{foreign, questions, asked_of};
+ghost use Rattle.points.specs.Cells.{Taken};
+ghost use Rattle.given_tests.specs.Placed.{given};
 
-use axis_cell::{high_of, low_of, made_up};
+use axis_cell::{high_of, low_of, made_up, order_of};
 use axis_make::{thin, unfit};
-use points::any_unfit;
-use rules::{ANSWERED, Axis, REFUSED_OUTSIDE, REFUSED_THIN, REFUSED_VALUE};
+use points::{Placed, some_unfit};
+use rules::{Axis, Refusal};
 
-// Whether a value lies outside low to high.
-fn is_outside(low: f64, high: f64, value: f64) -> bool
-    ensures { result ≡ outside low high value }
+// Whether an end of some axis is unfit.
+fn ends_unfit(axes: &[Placed]) -> bool
+    ensures { result ≡ any (λ g. any value_unfit (low_of g.axis ∷ high_of g.axis ∷ [])) (map given axes.now) }
 {
-    if value < low { true } else { high < value }
+    axes.iter().any(|placed| unfit(low_of(placed.axis)) || unfit(high_of(placed.axis)))
+}
+
+// Whether the low end of some axis is above the high one.
+fn ends_reversed(axes: &[Placed]) -> bool
+    ensures { result ≡ any (λ g. reversed (low_of g.axis) (high_of g.axis)) (map given axes.now) }
+{
+    axes.iter()
+        .any(|placed| high_of(placed.axis) < low_of(placed.axis))
+}
+
+// Whether some axis is thin.
+fn some_thin(axes: &[Placed]) -> bool
+    ensures { result ≡ any (λ g. axis_thin (low_of g.axis) (high_of g.axis)) (map given axes.now) }
+{
+    axes.iter()
+        .any(|placed| thin(low_of(placed.axis), high_of(placed.axis)))
+}
+
+// Whether a record is made up or of another order; where it is neither, making it anew at this order gives it back.
+fn is_foreign(axis: Axis, order: u32) -> bool
+    ensures value { result ≡ foreign order axis }
+    ensures order_value { result ≡ false → make_axis (low_of axis) (high_of axis) order ≡ Ok axis }
+{
+    if made_up(axis) {
+        return true;
+    }
+    order_of(axis) != order
+}
+
+// Whether some record is made up or of another order; where none is, making each anew at this order gives it back.
+fn some_foreign(axes: &[Placed], order: u32) -> bool
+    ensures value { result ≡ any (λ g. foreign order g.axis) (map given axes.now) }
+    ensures order_value { result ≡ false → All (λ p. make_axis (low_of p.axis) (high_of p.axis) order ≡ Ok p.axis) axes.now }
+{
+    axes.iter().any(|placed| is_foreign(placed.axis, order))
 }
 
 // Whether some value lies outside low to high.
 fn any_outside(xs: &[f64], low: f64, high: f64) -> bool
     ensures { result ≡ any (outside low high) xs.now }
 {
-    let mut i = 0;
-    while i < xs.len() {
-        if is_outside(low, high, xs[i]) {
-            return true;
-        }
-        i += 1;
-    }
-    false
+    xs.iter().any(|x| *x < low || high < *x)
 }
 
-// Whether a record is made up or of another order; where it is neither, making it anew at this order gives it back.
-fn is_foreign(axis: Axis, order: u32) -> bool
-    ensures value { result ≡ foreign order axis }
-    ensures order_value { result ≡ false → make_axis (low_of axis) (high_of axis) order ≡ Made axis }
+// Whether some value lies outside the ends of its axis.
+fn points_outside(axes: &[Placed]) -> bool
+    ensures { result ≡ any (λ g. any (outside (low_of g.axis) (high_of g.axis)) g.points) (map given axes.now) }
 {
-    if made_up(axis) {
-        return true;
-    }
-    match axis {
-        Axis::Flat { order: own, .. } => own != order,
-        Axis::Sloped { order: own, .. } => own != order,
-    }
+    axes.iter().any(|placed| any_outside(placed.points, low_of(placed.axis), high_of(placed.axis)))
 }
 
-// The place of the first question that passes of an axis and its points, 6 where none does; then the axis takes the points.
-pub fn first_place(xs: &[f64], axis: Axis, order: u32) -> u32
-    ensures value { result ≡ place_of (on xs.now axis) order }
-    ensures takes { result ≡ 6 → Takes xs.now (length xs.now) order axis }
+// What is asked of the axes and their points; where nothing passes, each axis takes its points.
+#[tactic(auto, using(std::proofs::Common::tests, crate::proofs::OneAxis::given_unfit), unfolding(knots_given::specs::Given::asked_of, knots_given::specs::Given::questions))]
+pub fn test_axes(axes: &[Placed], order: u32) -> Result<(), Refusal>
+    ensures value { result ≡ answer_by (asked_of (map given axes.now) (questions order)) tt }
+    ensures takes { result ≡ Ok tt → All (λ p. Taken (length p.points.now) order p) axes.now }
 {
-    let low = low_of(axis);
-    let high = high_of(axis);
-    if unfit(low) {
-        return 0;
+    if ends_unfit(axes) {
+        return Err(Refusal::Value);
     }
-    if unfit(high) {
-        return 0;
+    if ends_reversed(axes) {
+        return Err(Refusal::Outside);
     }
-    if high < low {
-        return 1;
+    if some_thin(axes) {
+        return Err(Refusal::Thin);
     }
-    if thin(low, high) {
-        return 2;
+    if some_foreign(axes, order) {
+        return Err(Refusal::Outside);
     }
-    if is_foreign(axis, order) {
-        return 3;
+    if some_unfit(axes) {
+        return Err(Refusal::Value);
     }
-    if any_unfit(xs) {
-        return 4;
+    if points_outside(axes) {
+        return Err(Refusal::Outside);
     }
-    if any_outside(xs, low, high) {
-        return 5;
-    }
-    6
-}
-
-// The earlier of two places.
-pub fn earlier(a: u32, b: u32) -> u32
-    ensures { result ≡ min a b }
-{
-    if a <= b { a } else { b }
-}
-
-// The number of the question at a place, 0 behind the last.
-pub fn number_at(place: u32) -> u32
-    ensures { result ≡ number_at_place place }
-{
-    match place {
-        0 => REFUSED_VALUE,
-        1 => REFUSED_OUTSIDE,
-        2 => REFUSED_THIN,
-        3 => REFUSED_OUTSIDE,
-        4 => REFUSED_VALUE,
-        5 => REFUSED_OUTSIDE,
-        _ => ANSWERED,
-    }
+    Ok(())
 }

@@ -1,67 +1,59 @@
-// What the parts of a grid weigh, in a table with a place for each id.
+// Sums of weights, in a table with a place for each of up to 4,096 parts or lines.
 //
 // There are at most 65,536 weights of at most 16,777,215, so that no sum of them reaches 2^40: what is added here is exact.
-use numbered_lines::places::place_of;
 
-// Adds a weight at a place of a table.
-pub fn add(table: &mut [u64; 4096], place: usize, weight: u64)
-    ensures { Unit {0} }
-{
-    let at = place % 4096;
-    table[at] = std::num::wrapping_add_u64(table[at], weight);
+#[derive(Drop)]
+pub struct Sums {
+    table: [u64; 4096],
 }
 
-// Adds the weights of so many cells to their parts.
-pub fn add_to_parts(
-    parts: &mut [u64; 4096],
-    cells: usize,
-    weights: &[u64; 65536],
-    ids: &[u32; 65536],
-)
-    ensures { Unit {0} }
-{
-    for i in 0..65536usize {
-        if i < cells {
-            add(parts, place_of(ids, i), weights[i]);
+impl Sums {
+    pub fn none() -> Sums
+        ensures { Unit {0} }
+    {
+        Sums { table: [0; 4096] }
+    }
+
+    // Adds a weight at a place.
+    pub fn add(&mut self, place: usize, weight: u64)
+        ensures { Unit {0} }
+    {
+        if let Some(sum) = self.table.get_mut(place) {
+            *sum = sum.wrapping_add(weight);
         }
     }
-}
 
-// The sum of a table.
-pub fn sum(table: &[u64; 4096]) -> u64
-    ensures { Unit {0} }
-{
-    let mut all: u64 = 0;
-    for i in 0..4096usize {
-        all = std::num::wrapping_add_u64(all, table[i]);
+    // What is at a place.
+    pub fn of(&self, place: usize) -> u64
+        ensures { Unit {0} }
+    {
+        self.table.get(place).copied().unwrap_or(0)
     }
-    all
-}
 
-// The first of the heaviest places of a table.
-pub fn heaviest(table: &[u64; 4096]) -> usize
-    ensures { Unit {0} }
-{
-    let mut best: usize = 0;
-    for i in 0..4096usize {
-        if table[best % 4096] < table[i] {
-            best = i;
-        }
+    // What all weigh.
+    pub fn total(&self) -> u64
+        ensures { Unit {0} }
+    {
+        self.table
+            .iter()
+            .fold(0u64, |all, sum| all.wrapping_add(*sum))
     }
-    best
-}
 
-// The first of the lightest places of a table, up to one of them.
-pub fn lightest(table: &[u64; 4096], last: usize) -> usize
-    ensures { Unit {0} }
-{
-    let mut best: usize = 0;
-    for i in 0..4096usize {
-        if i <= last {
-            if table[i] < table[best % 4096] {
-                best = i;
-            }
-        }
+    // The first of the heaviest places, with what is there.
+    pub fn heaviest(&self) -> (usize, u64)
+        ensures { Unit {0} }
+    {
+        let places = self.table.iter().copied().enumerate();
+        let heaviest = places.rev().max_by_key(|(_, sum)| *sum);
+        heaviest.unwrap_or((0, 0))
     }
-    best
+
+    // The first of the lightest of so many places, with what is there.
+    pub fn lightest(&self, places: usize) -> (usize, u64)
+        ensures { Unit {0} }
+    {
+        let first = self.table.iter().copied().enumerate().take(places);
+        let lightest = first.min_by_key(|(_, sum)| *sum);
+        lightest.unwrap_or((0, 0))
+    }
 }

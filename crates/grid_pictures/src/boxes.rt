@@ -1,38 +1,22 @@
 // The parts as boxes in their colours.
-use crate::areas::{area_at, begins};
-use crate::plan::Plan;
-use crate::{areas, hues};
-use numbered_lines::places::place_of;
-use printing::Buffer;
+use crate::drawn::Drawn;
+use crate::hues::Hues;
+use std::fmt;
 
-// Puts the box that begins at cell i.
-fn put_box(
-    buffer: &mut Buffer,
-    at: usize,
-    plan: Plan,
-    ids: &[u32; 65536],
-    hues: &[u8; 4096],
-    i: usize,
-) -> usize {
-    let a = areas::put(buffer, at, area_at(plan, ids, i));
-    let b = printing::bytes(buffer, a, b" fill='");
-    let c = hues::put(buffer, b, hues[place_of(ids, i) % 4096]);
-    printing::bytes(buffer, c, b"'/>\n")
+#[derive(Clone, Copy)]
+pub struct Boxes<'a> {
+    pub drawn: Drawn<'a>,
+    pub hues: &'a Hues,
 }
 
-// Puts all boxes.
-pub(crate) fn put(
-    buffer: &mut Buffer,
-    at: usize,
-    plan: Plan,
-    ids: &[u32; 65536],
-    hues: &[u8; 4096],
-) -> usize {
-    let mut next = at;
-    for i in 0..65536usize {
-        if begins(plan, ids, i) {
-            next = put_box(buffer, next, plan, ids, hues, i);
+impl fmt::Display for Boxes<'_> {
+    fn fmt<W: fmt::Write>(&self, f: &mut fmt::Formatter<W>) -> fmt::Result {
+        let drawn = self.drawn;
+        for part in (0..drawn.ids.len()).filter_map(|cell| drawn.part_at(cell)) {
+            let area = part.area;
+            let colour = self.hues.colour(part.id);
+            write!(f, "{area} fill='{colour}'/>\n")?;
         }
+        Ok(())
     }
-    next
 }

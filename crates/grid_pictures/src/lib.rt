@@ -5,9 +5,9 @@
 // Every function is proved safe, and to end; what is written no contract can say, and the gate compares it.
 #![tactic(auto)]
 
-mod areas;
 mod boxes;
 mod cuts;
+mod drawn;
 mod hues;
 mod labels;
 mod panels;
@@ -15,51 +15,52 @@ mod plan;
 mod shades;
 mod titles;
 
-use grid_files::shape::Shape;
-use grid_files::sums::add_to_parts;
+use boxes::Boxes;
+use cuts::Cuts;
+use drawn::Drawn;
+use grid_files::halved::Halved;
+use hues::Hues;
+use labels::Labels;
+use messages::Outcome;
+use panels::Panels;
 use plan::Plan;
-use printing::Buffer;
+use printing::Output;
+use shades::Shades;
+use std::fmt::Write;
 use std::rt::HostRuntime;
-use words::status::of_output;
+pub use titles::Files;
+use titles::Titles;
 
-// Puts what is drawn in tenths of a pixel.
-fn put_drawing(
-    buffer: &mut Buffer,
-    at: usize,
-    plan: Plan,
-    depth: u32,
-    weights: &[u64; 65536],
-    ids: &[u32; 65536],
-    sums: &[u64; 4096],
-) -> usize {
-    let mut hues = [0u8; 4096];
-    hues::fill(&mut hues, plan, ids);
-    let a = printing::bytes(buffer, at, b"<g transform='scale(.1)'>\n");
-    let b = panels::put(buffer, a, plan);
-    let c = boxes::put(buffer, b, plan, ids, &hues);
-    let d = shades::put(buffer, c, plan, weights, ids);
-    let e = cuts::put(buffer, d, plan, depth, ids);
-    let f = labels::put(buffer, e, plan, ids, sums);
-    printing::bytes(buffer, f, b"</g>\n</svg>\n")
-}
-
-// Draws a grid out of a file, halved to a depth, and after the night of a trace where that has a name.
-pub fn draw(
-    rt: HostRuntime,
-    path: &[u8],
-    trace: &[u8],
-    shape: Shape,
-    depth: u32,
-    weights: &[u64; 65536],
-    ids: &[u32; 65536],
-) -> u8
+// Draws a grid out of files, halved.
+pub fn draw(rt: HostRuntime, files: Files<'_>, halved: Halved<'_>) -> Outcome
     ensures { Unit {0} }
 {
-    let mut buffer = Buffer::of(rt);
-    let mut sums = [0u64; 4096];
-    add_to_parts(&mut sums, shape.cells, weights, ids);
-    let plan = plan::of(shape);
-    let a = titles::put(&mut buffer, path, trace, shape, plan, depth, weights, &sums);
-    let b = put_drawing(&mut buffer, a, plan, depth, weights, ids, &sums);
-    of_output(printing::flush(&buffer, b))
+    let mut out = Output::of(rt);
+    let plan = Plan::of(halved.shape);
+    let drawn = Drawn {
+        plan,
+        weights: halved.weights,
+        ids: halved.ids,
+    };
+    let sums = halved.parts();
+    let darkest = drawn.darkest();
+    let titles = Titles {
+        files,
+        plan,
+        wish: halved.wish,
+        sums: &sums,
+        darkest,
+    };
+    let panels = Panels(plan);
+    write!(out, "{titles}<g transform='scale(.1)'>\n{panels}")?;
+    let hues = Hues::of(drawn);
+    let boxes = Boxes { drawn, hues: &hues };
+    let shades = Shades { drawn, darkest };
+    let cuts = Cuts {
+        drawn,
+        depth: halved.wish.depth,
+    };
+    let labels = Labels { drawn, sums: &sums };
+    write!(out, "{boxes}{shades}{cuts}{labels}</g>\n</svg>\n")?;
+    out.finish()
 }

@@ -8,11 +8,61 @@
 //            coordinates, or UNCUT
 //   ids      one for each cell, in the order of the weights
 //
-// A caller may rely on these laws: one number and one pair of slices keep the promise (rcb_2d_only, rcb_3d_only); each
-// id is below 2^depth (ids_below); the weights of the ids add up to the whole and keep to their bounds (demand_3_in_2d,
+// A refused call writes nothing. A caller may rely on these laws: one answer and one pair of slices keep the promise (rcb_2d_only,
+// rcb_3d_only); each id is below 2^depth (ids_below); the weights of the ids add up to the whole and keep to their bounds (demand_3_in_2d,
 // demand_3_in_3d); each cut lies in its block, and a node is not cut just where its side is 0 or its parent is not cut
 // (structured); in 2D, nothing but the first axis tells x from y (mirror).
 #![tactic(auto)]
 
-pub use halving_2d::rcb_2d;
-pub use halving_3d::rcb_3d;
+ghost use Rattle.std.specs.Prelude.{◌≡◌};
+ghost use Rattle.rules.specs.Refusals.{number_in};
+ghost use Rattle.rules.specs.Halving.{halving2, halving3, halve};
+ghost use Rattle.blocks.specs.Blocks.{rule_of};
+
+use blocks::Halving;
+use rules::{Halving2, Halving3, Refusal};
+
+// Halves a grid: the tests, and then, where none refuses, splits and ids written. The slices are arguments beside the halving, as the C
+// interface lends them.
+fn rcb(
+    halving: Halving,
+    weights: &[u64],
+    splits: &mut [u32],
+    ids: &mut [u32],
+) -> Result<(), Refusal>
+    ensures number { number_in result ≡ (halve (rule_of halving) weights.now splits.old ids.old).number }
+    ensures splits { splits.new ≡ (halve (rule_of halving) weights.now splits.old ids.old).splits }
+    ensures ids { ids.new ≡ (halve (rule_of halving) weights.now splits.old ids.old).ids }
+{
+    halving_tests::tests(halving, weights, splits, ids)?;
+    halve::halve(halving, weights, splits, ids);
+    Ok(())
+}
+
+// Halves a grid of width times height cells. This and the next stand apart, since README and docs/PROMISES.md name both.
+pub fn rcb_2d(
+    halving: Halving2,
+    weights: &[u64],
+    splits: &mut [u32],
+    ids: &mut [u32],
+) -> Result<(), Refusal>
+    ensures number { number_in result ≡ (halve (halving2 halving) weights.now splits.old ids.old).number }
+    ensures splits { splits.new ≡ (halve (halving2 halving) weights.now splits.old ids.old).splits }
+    ensures ids { ids.new ≡ (halve (halving2 halving) weights.now splits.old ids.old).ids }
+{
+    rcb(Halving::from(halving), weights, splits, ids)
+}
+
+// Halves a grid of width times height times layers cells.
+pub fn rcb_3d(
+    halving: Halving3,
+    weights: &[u64],
+    splits: &mut [u32],
+    ids: &mut [u32],
+) -> Result<(), Refusal>
+    ensures number { number_in result ≡ (halve (halving3 halving) weights.now splits.old ids.old).number }
+    ensures splits { splits.new ≡ (halve (halving3 halving) weights.now splits.old ids.old).splits }
+    ensures ids { ids.new ≡ (halve (halving3 halving) weights.now splits.old ids.old).ids }
+{
+    rcb(Halving::from(halving), weights, splits, ids)
+}

@@ -29,7 +29,7 @@ sides_fit sides e =
 pub accepted : (h : Halving) (ws splits ids : List ℕ) → refusal_of h ws splits ids ≡ 0 → Accepted h ws splits ids
 unfolding grid_tests
 accepted h ws splits ids e =
-    let none = none_passes (halving_tests h ws splits ids) tt e in
+    let none = none_passes (halving_tests h ws splits ids) e in
     let fit = sides_fit h.sides none.1.1.0 in
     let long = neither (lengths_off (cells h.sides) (length ws ∷ length ids ∷ [])) _ none.1.1.1.1.0 in
     let cell-lengths = length_fits (cells h.sides) (length ws ∷ length ids ∷ []) long.0 in
@@ -49,10 +49,14 @@ accepted h ws splits ids e =
 nor : {a b : Bool} → a ≡ false → b ≡ false → (a || b) ≡ false
 nor e f = rw (e, f)
 
+pub no_side_unfit : {h : Halving} {ws splits ids : List ℕ} → Accepted h ws splits ids → any side_unfit h.sides ≡ false
+no_side_unfit {h} r =
+    none side_unfit 0 h.sides
+    (λ a l. let f = r.sides_fit a l in nor (ne_eqb (on h.sides a) 0 (λ e. omega arith)) (le-ltb top_side (on h.sides a) f.1))
+
 pub not_refused : (h : Halving) (ws splits ids : List ℕ) → Accepted h ws splits ids → refusal_of h ws splits ids ≡ 0
 unfolding grid_tests any
 not_refused h ws splits ids r =
-    let fits : (s : ℕ) → (1 ≤ s) × (s ≤ top_side) → side_unfit s ≡ false = λ s f. nor (ne_eqb s 0 (λ e. omega arith)) (le-ltb top_side s f.1) in
-    let sides : sides_unfit h.sides ≡ false = nor (none side_unfit 0 h.sides (λ a l. fits _ (r.sides_fit a l))) (le-ltb top_cells _ r.few) in
+    let sides : sides_unfit h.sides ≡ false = nor (no_side_unfit r) (le-ltb top_cells _ r.few) in
     let weights : weight_over ws ≡ false = none (ltb top_weight) 0 ws (λ c l. le-ltb top_weight _ (r.light c l)) in
     rw (r.edition_known, lt-leb _ _ r.first_fits, sides, le-ltb top_depth _ r.shallow, r.weights_long, r.ids_long, r.splits_long, eq-eqb (cells h.sides) _ refl, eq-eqb (2 ^ h.depth - 1) _ refl, weights)

@@ -162,10 +162,10 @@ mirror_fits : (h : Halving2) (ws splits ids : List ℕ) → refusal_of (halving2
     → refusal_of (halving2 (mirror_halving h)) (mirror_cells h.width h.height ws) splits ids ≡ 0
 unfolding grid_tests
 mirror_fits h ws splits ids e =
-    let passed = none_passes (halving_tests (halving2 h) ws splits ids) tt e in
+    let passed = none_passes (halving_tests (halving2 h) ws splits ids) e in
     let r = accepted (halving2 h) ws splits ids e in
     let long = mirror_length h.width h.height ws ∙ sym (all_cells h.width h.height) ∙ sym r.weights_long in
-    (exactly (halving_tests (halving2 (mirror_halving h)) (mirror_cells h.width h.height ws) splits ids) tt).none (
+    (exactly (halving_tests (halving2 (mirror_halving h)) (mirror_cells h.width h.height ws) splits ids)).none (
       passed.0,
       (
         other_below h.first r.first_fits,

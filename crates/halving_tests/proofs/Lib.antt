@@ -1,2 +1,2 @@
-pub mod ThreeSides
+pub mod Powers
 pub mod Once

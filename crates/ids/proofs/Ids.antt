@@ -1,15 +1,19 @@
 -- The ids that the code finds are those of the rules.
-use Prim.Native.Nat.{ℕ, zero, suc, ◌*◌, ◌/◌, ◌%◌, ◌<◌}
+use Prim.Native.Nat.{ℕ, zero, suc, ◌*◌, ◌/◌, ◌%◌, ◌<◌, ◌≤◌}
 use native.Mathlib.Omega.{arith}
 use native.Mathlib.Nat.{mod-eq_of_lt, div-lt_iff_lt-mul}
-use mathlib.Core.Path.{◌≡◌, refl, ap, sym, ◌∙◌}
+use mathlib.Core.Path.{◌≡◌, refl, sym, ap, ◌∙◌}
 use mathlib.Core.List.{List, [], ◌∷◌}
+use lib.ListN.{take}
 use Rattle.rules.specs.Sums.{list}
-use Rattle.rules.specs.Grid.{cells, coords, on}
+use Rattle.rules.specs.Grid.{coords, on}
 use Rattle.rules.specs.Halving.{next_axis, walk, id_of, ids_of}
-use Rattle.halving_laws.proofs.Ids.{next_lt}
-use Rattle.ids.specs.Ids.{id_on, id_at}
 use Rattle.laws.proofs.Lists.{list_ext}
+use Rattle.halving_laws.proofs.Ids.{next_lt}
+use Rattle.blocks.specs.Blocks.{sides_of}
+use Rattle.blocks.specs.declared.grid.Grid.{Grid}
+use Rattle.blocks.proofs.AsBlocks.{three, axes_are, cells_are}
+use Rattle.ids.specs.Ids.{id_on, id_at}
 
 -- a cell's way looks at the coordinates on the axes alone
 walk_same : (s : List ℕ) (n d a node id : ℕ) (xs ys : List ℕ) → a < n → ((i : ℕ) → i < n → on xs i ≡ on ys i)
@@ -18,28 +22,25 @@ unfolding walk
 walk_same s n zero a node id xs ys h e = refl
 walk_same s n (suc d) a node id xs ys h e = rw (e a h) (walk_same s n d (next_axis n a) _ _ xs ys (next_lt n a h) e)
 
-positive : (w n c : ℕ) → c < w * n → 0 < w
-positive zero n c h = omega arith
-positive (suc w) n c h = omega arith
+-- the coordinates of a cell, its layer counted, on the axes
+on_axes : (n w h d c i : ℕ) → 0 < w → 0 < h → c < w * (h * d) → i < n → n ≤ 3 → on (c % w ∷ c / w % h ∷ c / w / h ∷ []) i ≡ on (coords (take n (w ∷ h ∷ d ∷ [])) c) i
+unfolding coords
+on_axes zero w h d c i p q l k f = absurd (omega arith)
+on_axes (suc n) w h d c zero p q l k f = refl
+on_axes (suc zero) w h d c (suc i) p q l k f = absurd (omega arith)
+on_axes (suc (suc n)) w h d c (suc zero) p q l k f = refl
+on_axes (suc (suc zero)) w h d c (suc (suc i)) p q l k f = absurd (omega arith)
+on_axes (suc (suc (suc n))) w h d c (suc (suc zero)) p q l k f =
+    let r : c / w < h * d = (div-lt_iff_lt-mul p).1 (omega arith) in
+    let last : c / w / h < d = (div-lt_iff_lt-mul q).1 (omega arith) in
+    sym (mod-eq_of_lt last)
+on_axes (suc (suc (suc n))) w h d c (suc (suc (suc i))) p q l k f = absurd (omega arith)
 
-pub ids_3d : (s : List ℕ) (w h d first k : ℕ) → list (id_at s 3 k first w h) (w * (h * d)) ≡ ids_of (w ∷ h ∷ d ∷ []) first k s
-unfolding ids_of id_at id_on id_of coords cells
-ids_3d s w h d first k =
-    list_ext _ _ (w * (h * d)) (λ c l. ap (λ (z : ℕ). walk s 3 k first 1 0 (c % w ∷ c / w % h ∷ z ∷ [])) (sym (mod-eq_of_lt (last c l))))
-    ∙ ap (list _) (omega arith)
-  where
-    last : (c : ℕ) → c < w * (h * d) → c / w / h < d
-    last c l =
-        let r : c / w < h * d = (div-lt_iff_lt-mul (positive w (h * d) c l)).1 (omega arith) in
-        (div-lt_iff_lt-mul (positive h d (c / w) r)).1 (omega arith)
-
-pub ids_2d : (s : List ℕ) (w h first k : ℕ) → first < 2 → list (id_at s 2 k first w h) (w * h) ≡ ids_of (w ∷ h ∷ []) first k s
-unfolding ids_of id_at id_on id_of coords cells
-ids_2d s w h first k f =
-    list_ext _ _ (w * h) (λ c l. walk_same s 2 k first 1 0 _ _ f (axes (c % w) (c / w % h) (c / w / h)))
-    ∙ ap (list _) (omega arith)
-  where
-    axes : (x y z i : ℕ) → i < 2 → on (x ∷ y ∷ z ∷ []) i ≡ on (x ∷ y ∷ []) i
-    axes x y z zero l = refl
-    axes x y z (suc zero) l = refl
-    axes x y z (suc (suc i)) l = omega arith
+pub all_ids : (g : Grid) (n : ℕ) (s : List ℕ) (first k : ℕ) → g.axes ≡ n → first < n → 0 < on g.sides 0 → 0 < on g.sides 1
+    → list (id_at s n k first (on g.sides 0) (on g.sides 1)) (on g.sides 0 * (on g.sides 1 * on g.sides 2)) ≡ ids_of (sides_of g) first k s
+unfolding ids_of id_at id_on id_of
+all_ids g n s first k p a wide high =
+    rw (cells_are g)
+    (list_ext _ _ _
+    (λ c l. rw (axes_are g, p) (walk_same s n k first 1 0 _ _ a
+    (λ i q. on_axes n _ _ _ c i wide high l q (omega (arith, g.axes_fit)) ∙ ap (λ (sides : List ℕ). on (coords (take n sides) c) i) (sym (three g.sides g.three))))))

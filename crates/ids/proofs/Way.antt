@@ -1,22 +1,17 @@
 -- The way of a cell through the cuts.
-use Prim.Native.Nat.{ℕ, zero, suc, ◌+◌, ◌-◌, ◌*◌, ◌%◌, ◌^◌, ◌≤◌, ◌<◌}
+use Prim.Native.Nat.{ℕ, suc, ◌+◌, ◌-◌, ◌*◌, ◌^◌, ◌≤◌, ◌<◌}
 use native.Mathlib.Omega.{arith}
 use native.Mathlib.Nat.{add-zero}
-use mathlib.Core.Path.{◌≡◌, refl, sym, ◌∙◌}
-use mathlib.Core.List.{List, [], ◌∷◌}
+use mathlib.Core.Path.{◌≡◌, sym, ◌∙◌}
+use mathlib.Core.List.{List}
 use lib.ListN.{length, get_or}
 use borrow.Author.Tests.{lt-ltb, le-ltb}
+use Rattle.std.proofs.lemmas.List.{get_or_default}
 use Rattle.rules.specs.Refusals.{top_depth}
 use Rattle.rules.specs.Halving.{uncut, cut, next_axis, turn, walk}
 use Rattle.halving_laws.specs.Nodes.{Places}
 use Rattle.halving_laws.proofs.Ids.{next_lt}
 use Rattle.halving_laws.proofs.Steps.{place_here, first_places, second_places}
-
--- inside a list the value past its end does not matter
-pub any-default : (s : List ℕ) (i d e : ℕ) → i < length s → get_or s i d ≡ get_or s i e
-any-default [] i d e h = omega arith
-any-default (x ∷ xs) zero d e h = refl
-any-default (x ∷ xs) (suc i) d e h = any-default xs i d e (omega arith)
 
 walk_left : (s : List ℕ) (n d a node id : ℕ) (xs : List ℕ) → get_or xs a 0 < cut s node
     → walk s n (suc d) a node id xs ≡ walk s n d (next_axis n a) (2 * node) (2 * id) xs
@@ -47,10 +42,9 @@ module _ {s : List ℕ} {n depth first : ℕ} {xs : List ℕ} {node id a level :
       (w.places.room.first, omega (arith, w.places.room.first), w.places.short)
 
   read : level < depth → get_or s (node - 1) 0 ≡ cut s node
-  read l = let q = node_small l in any-default s (node - 1) 0 uncut (omega arith)
+  read l = let q = node_small l in get_or_default s (node - 1) 0 uncut (omega arith)
 
-  pub leftwards : level < depth → get_or xs a 0 < get_or s (node - 1) 0 → Way s n depth first xs (2 * node) (2 * id) ((a + 1) % n) (level + 1)
-  unfolding next_axis
+  pub leftwards : level < depth → get_or xs a 0 < get_or s (node - 1) 0 → Way s n depth first xs (2 * node) (2 * id) (next_axis n a) (level + 1)
   leftwards l h =
       let e : depth - level ≡ suc (depth - (level + 1)) = omega arith in
       let m : depth - (level + 1) ≡ (depth - level) - 1 = omega arith in
@@ -62,8 +56,7 @@ module _ {s : List ℕ} {n depth first : ℕ} {xs : List ℕ} {node id a level :
         same = sym (walk_left s n (depth - (level + 1)) a node id xs (omega (arith, read l))) ∙ rw (← e) w.same;
       }
 
-  pub rightwards : level < depth → get_or s (node - 1) 0 ≤ get_or xs a 0 → Way s n depth first xs (2 * node + 1) (2 * id + 1) ((a + 1) % n) (level + 1)
-  unfolding next_axis
+  pub rightwards : level < depth → get_or s (node - 1) 0 ≤ get_or xs a 0 → Way s n depth first xs (2 * node + 1) (2 * id + 1) (next_axis n a) (level + 1)
   rightwards l h =
       let e : depth - level ≡ suc (depth - (level + 1)) = omega arith in
       let m : depth - (level + 1) ≡ (depth - level) - 1 = omega arith in

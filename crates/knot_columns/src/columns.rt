@@ -1,108 +1,81 @@
-// The columns that hold the coordinates.
-use console::faults;
-use console::lines::{field_of, fields_on, part};
-use wholes::Whole;
-use words::same;
+// The columns that hold the coordinates, counted from 0.
+ghost use Rattle.std.specs.Prelude.{◌<◌, ◌≤◌, length, IfSome};
 
-// Where the coordinates stand: how many there are, and the column of each, counted from 0. Where none were chosen a line has
-// nothing else.
-#[derive(Clone, Copy)]
-pub struct Columns {
-    pub chosen: bool,
-    pub count: usize,
-    pub x: usize,
-    pub y: usize,
-    pub z: usize,
+use console::source::Source;
+use messages::{Failure, failed};
+use wholes::whole_of;
+
+// The first columns, of lines that have so many fields and nothing else; or two or three that were chosen.
+#[derive(Clone, Copy, Debug, PartialEq, Eq)]
+pub enum Columns {
+    First(usize),
+    Two([usize; 2]),
+    Three([usize; 3]),
 }
 
-// A column that no line has.
-pub const NO_COLUMN: usize = 4194304;
-
-// The first columns, as many as there are coordinates.
-pub fn first(count: usize) -> Columns
-    ensures { Unit {0} }
-{
-    Columns {
-        chosen: false,
-        count,
-        x: 0,
-        y: 1,
-        z: 2,
-    }
-}
-
-// Which coordinate a column holds, 3 where it holds none.
-pub fn axis_of(columns: Columns, column: usize) -> usize
-    ensures { Unit {0} }
-{
-    if column == columns.x {
-        return 0;
-    }
-    if column == columns.y {
-        return 1;
-    }
-    if column == columns.z {
-        if columns.count == 3 {
-            return 2;
+impl Columns {
+    // The column of each coordinate. Of lines that have neither two nor three fields the first two are read.
+    pub fn places(&self) -> &[usize]
+        ensures { length result.now ≤ 3 }
+    {
+        match self {
+            Columns::First(3) => &[0, 1, 2],
+            Columns::First(_) => &[0, 1],
+            Columns::Two(places) => places,
+            Columns::Three(places) => places,
         }
     }
-    3
-}
 
-// The column of a coordinate.
-pub fn column_of(columns: Columns, axis: usize) -> usize
-    ensures { Unit {0} }
-{
-    match axis {
-        0 => columns.x,
-        1 => columns.y,
-        _ => columns.z,
-    }
-}
-
-// The number of a column as people count, from 1; of what is no such number no column.
-fn numbered(word: &[u8]) -> usize {
-    let met = wholes::whole_of(word);
-    let Whole::Value(n) = met else {
-        return NO_COLUMN;
-    };
-    if n == 0 {
-        return NO_COLUMN;
-    }
-    if NO_COLUMN as u64 <= n {
-        return NO_COLUMN;
-    }
-    (n - 1) as usize
-}
-
-// The column of this name in the line at `at`.
-fn named(text: &[u8], at: usize, separator: u8, name: &[u8]) -> usize {
-    for k in 0..fields_on(text, at, separator) {
-        let field = field_of(text, at, separator, k);
-        if same(part(text, field.start, field.end), name) {
-            return k;
+    // How many coordinates there are.
+    pub fn count(self) -> usize
+        ensures { Unit {0} }
+    {
+        match self {
+            Columns::First(count) => count,
+            Columns::Two(_) => 2,
+            Columns::Three(_) => 3,
         }
     }
-    NO_COLUMN
-}
 
-// The column that a word names, by its number or by its name in the line at `at`.
-pub fn place_of(text: &[u8], at: usize, separator: u8, word: &[u8]) -> usize
-    ensures { Unit {0} }
-{
-    let column = numbered(word);
-    if column < NO_COLUMN {
-        return column;
+    // Which coordinate a column holds.
+    pub fn axis_of(&self, column: usize) -> Option<usize>
+        ensures { IfSome result (λ axis. axis < 3) }
+    {
+        self.places().iter().position(|place| *place == column)
     }
-    named(text, at, separator, word)
 }
 
-// Says that a word names no column.
-pub fn say_unknown(word: &[u8])
+// Above the number of every column.
+const BEYOND: u64 = 4194304;
+
+// The column that a word names by its number, as people count, from 1.
+fn numbered(word: &[u8]) -> Option<usize> {
+    match whole_of(word) {
+        Ok(n) if 0 < n && n < BEYOND => Some((n - 1) as usize),
+        _ => None,
+    }
+}
+
+// The column that a word names, by its number or by its name in the line that starts at `head`.
+pub fn column_of(source: Source<'_>, head: usize, word: &[u8]) -> Option<usize>
     ensures { Unit {0} }
 {
-    faults::of(
-        word,
-        b"no column of the file's first line has this name or number",
-    );
+    if let Some(column) = numbered(word) {
+        return Some(column);
+    }
+    let mut names = source.line(head).fields();
+    names.position(|name| source.bytes(name) == word)
+}
+
+// The column that a word names, or says that it names none.
+pub fn known_column(source: Source<'_>, head: usize, word: &[u8]) -> Result<usize, Failure>
+    ensures { Unit {0} }
+{
+    match column_of(source, head, word) {
+        Some(column) => Ok(column),
+        None => Err(failed(
+            word,
+            "no column of the file's first line has this name or number",
+        )),
+    }
 }

@@ -1,55 +1,58 @@
 // The words of a command, each in its place: `report` or another word, the command, the file, the order, `plain` or not, `sorted` or not,
 // up to three columns, and up to six ends of a box. What is not asked for is an empty word.
-use words::{is, number_of, word};
+ghost use Rattle.std.specs.Prelude.{◌≤◌};
 
-// The first word of the columns and of the box.
-pub const COLUMNS: usize = 6;
+use words::Words;
 
+// The first word of the box.
 pub const BOX: usize = 9;
 
-pub fn path(line: &[u8]) -> &[u8]
+pub fn path(words: &Words) -> &[u8]
     ensures { Unit {0} }
 {
-    word(line, 2)
+    words.word(2)
 }
 
 // Whether the box alone is wanted.
-pub fn extent(line: &[u8]) -> bool
+pub fn extent(words: &Words) -> bool
     ensures { Unit {0} }
 {
-    is(line, 1, b"extent")
+    words.is(1, "extent")
 }
 
 // The order, the default where none is named.
-pub fn order(line: &[u8]) -> u32
+pub fn order(words: &Words) -> u32
     ensures { Unit {0} }
 {
-    if word(line, 3).len() == 0 {
-        return rules::DEFAULT_ORDER;
-    }
-    number_of(word(line, 3))
+    words.number_or(3, rules::DEFAULT_ORDER)
 }
 
-pub fn plain(line: &[u8]) -> bool
+pub fn plain(words: &Words) -> bool
     ensures { Unit {0} }
 {
-    is(line, 4, b"plain")
+    words.is(4, "plain")
 }
 
-pub fn sorted(line: &[u8]) -> bool
+pub fn sorted(words: &Words) -> bool
     ensures { Unit {0} }
 {
-    is(line, 5, b"sorted")
+    words.is(5, "sorted")
+}
+
+pub fn columns(words: &Words) -> [&[u8]; 3]
+    ensures { Unit {0} }
+{
+    [words.word(6), words.word(7), words.word(8)]
 }
 
 // How many ends of a box are given: none, 4 or 6.
-pub fn ends(line: &[u8]) -> usize
-    ensures { Unit {0} }
+pub fn ends(words: &Words) -> usize
+    ensures { result ≤ 6 }
 {
-    if word(line, BOX).len() == 0 {
+    if words.is_empty(BOX) {
         return 0;
     }
-    if word(line, BOX + 4).len() == 0 {
+    if words.is_empty(BOX + 4) {
         return 4;
     }
     6

@@ -1,51 +1,22 @@
 // A first line without numbers.
-use console::lines::{field_of, fields_on, part};
-use knot_columns::columns::{Columns, axis_of};
+use console::source::{Line, Source};
+use knot_columns::columns::Columns;
 use knot_columns::spelled::{not_finite, unsigned};
-use wholes::is_digit;
 
-// Whether a word starts with a digit, or with a point and a digit.
-fn starts(word: &[u8]) -> bool {
-    if word.len() == 0 {
-        return false;
-    }
-    if is_digit(word[0]) {
-        return true;
-    }
-    if word.len() == 1 {
-        return false;
-    }
-    if word[0] != b'.' {
-        return false;
-    }
-    is_digit(word[1])
+// Whether a word is meant as a number: it starts with a digit, or with a point and a digit, with a sign or none, or spells what is no
+// finite one.
+fn is_meant(word: &[u8]) -> bool {
+    not_finite(word) || matches!(unsigned(word), [b'0'..=b'9', ..] | [b'.', b'0'..=b'9', ..])
 }
 
-// Whether a word is meant as a number: it starts as one, with a sign or none, or spells what is no finite one.
-fn meant(word: &[u8]) -> bool {
-    if not_finite(word) {
-        return true;
-    }
-    starts(unsigned(word))
-}
-
-// Whether field `k` is meant as a number, and is one of the coordinates where columns were chosen.
-fn meant_field(text: &[u8], at: usize, separator: u8, columns: Columns, k: usize) -> bool {
-    if columns.chosen {
-        if axis_of(columns, k) == 3 {
-            return false;
-        }
-    }
-    let field = field_of(text, at, separator, k);
-    meant(part(text, field.start, field.end))
-}
-
-// Whether the line at `at` is a header: nothing in it that should be a number is meant as one.
-pub fn is_header(text: &[u8], at: usize, separator: u8, columns: Columns) -> bool
+// Whether a line is a header: nothing in it that should be a number is meant as one. Where columns were chosen those should be, and else
+// all fields.
+pub fn is_header(source: Source<'_>, line: Line<'_>, chosen: Option<Columns>) -> bool
     ensures { Unit {0} }
 {
-    for k in 0..fields_on(text, at, separator) {
-        if meant_field(text, at, separator, columns, k) {
+    for (column, field) in line.fields().enumerate() {
+        let is_wanted = chosen.is_none_or(|columns| columns.axis_of(column).is_some());
+        if is_wanted && is_meant(source.bytes(field)) {
             return false;
         }
     }

@@ -1,153 +1,113 @@
-// How a text is laid out: what parts its fields, its header if it has one, and the columns of the coordinates.
+// How a text is laid out: its header if it has one, where its lines of numbers start, and the columns of the coordinates.
+use crate::asked;
 use crate::header::is_header;
-use console::faults::{COLUMNS, NOTHING, note};
-use console::lines::{Span, field_of, fields_on, first_line, line_end};
-use knot_columns::columns::{Columns, NO_COLUMN, axis_of, column_of, first, place_of};
-use words::word;
+use console::faults::{Faults, Wrong};
+use console::source::{Line, Lines, Source};
+use knot_columns::columns::{Columns, known_column};
+use messages::{Failure, Outcome, failed};
+use words::Words;
 
-// The separator, where the first line that has a field begins, and where the first line of numbers does: behind the header, or there.
+// Where the first line that has a field starts, and where the first line of numbers does: behind the header, or there.
 #[derive(Clone, Copy)]
-pub struct Layout {
-    pub separator: u8,
+pub struct Layout<'a> {
+    pub source: Source<'a>,
     pub head: usize,
     pub first: usize,
 }
 
-// How many words from word `i` on name columns.
-fn named(words: &[u8], i: usize) -> usize {
-    if 4096 < i {
-        return 0;
-    }
-    if word(words, i).len() == 0 {
-        return 0;
-    }
-    if word(words, i + 2).len() == 0 {
-        return 2;
-    }
-    3
-}
-
-// The columns that word `i` and those behind it choose, by their numbers or by their names in the line at `head`.
-pub fn chosen(words: &[u8], i: usize, text: &[u8], head: usize, separator: u8) -> Columns
-    ensures { Unit {0} }
-{
-    let count = named(words, i);
-    if count == 0 {
-        return first(0);
-    }
-    if 4096 < i {
-        return first(0);
-    }
-    Columns {
-        chosen: true,
-        count,
-        x: place_of(text, head, separator, word(words, i)),
-        y: place_of(text, head, separator, word(words, i + 1)),
-        z: place_of(text, head, separator, word(words, i + 2)),
-    }
-}
-
-// The first coordinate whose word chose no column, 3 where there is none such.
-pub fn unknown(columns: Columns) -> usize
-    ensures { Unit {0} }
-{
-    for axis in 0..3usize {
-        if axis < columns.count {
-            if column_of(columns, axis) == NO_COLUMN {
-                return axis;
-            }
-        }
-    }
-    3
-}
-
-// The first coordinate whose column is that of one before it, 3 where there is none such.
-pub fn repeated(columns: Columns) -> usize
-    ensures { Unit {0} }
-{
-    for axis in 0..3usize {
-        if axis < columns.count {
-            if axis_of(columns, column_of(columns, axis)) != axis {
-                return axis;
-            }
-        }
-    }
-    3
-}
-
-// How a text is laid out whose first line with a field begins at `head`, and is a header or not.
-pub fn layout_by(text: &[u8], head: usize, separator: u8, headed: bool) -> Layout
-    ensures { Unit {0} }
-{
-    if !headed {
-        return Layout {
-            separator,
-            head,
-            first: head,
+impl<'a> Layout<'a> {
+    // Of a text whose first line with a field starts at `head`, and is a header or not.
+    pub fn of(source: Source<'a>, head: usize, is_headed: bool) -> Layout<'a>
+        ensures { Unit {0} }
+    {
+        let first = if is_headed {
+            source.first_line(source.line(head).end())
+        } else {
+            head
         };
+        Layout {
+            source,
+            head,
+            first,
+        }
     }
-    Layout {
-        separator,
-        head,
-        first: first_line(text, line_end(text, head), separator),
+
+    // Of a text of numbers, among columns that were chosen or in all its fields.
+    pub fn of_numbers(source: Source<'a>, head: usize, chosen: Option<Columns>) -> Layout<'a>
+        ensures { Unit {0} }
+    {
+        let is_headed = is_header(source, source.line(head), chosen);
+        Layout::of(source, head, is_headed)
+    }
+
+    pub fn header(self) -> Option<Line<'a>>
+        ensures { Unit {0} }
+    {
+        if self.head == self.first {
+            return None;
+        }
+        Some(self.source.line(self.head))
+    }
+
+    // The first line of numbers.
+    pub fn first_line(self) -> Line<'a>
+        ensures { Unit {0} }
+    {
+        self.source.line(self.first)
+    }
+
+    // The lines behind the header.
+    pub fn lines(self) -> Lines<'a>
+        ensures { Unit {0} }
+    {
+        self.source.lines(self.first)
     }
 }
 
-// How a text of knots is laid out whose first line with a field begins at `head`.
-pub fn layout_of(text: &[u8], head: usize, separator: u8, columns: Columns) -> Layout
+// The columns that the words of a command choose, by their numbers or by their names in the line that starts at `head`, none where there
+// are no such words; or says that a word names no column, or one that another has.
+pub fn chosen(words: &Words, source: Source<'_>, head: usize) -> Result<Option<Columns>, Failure>
     ensures { Unit {0} }
 {
-    layout_by(
-        text,
-        head,
-        separator,
-        is_header(text, head, separator, columns),
-    )
+    let [first, second, third] = asked::columns(words);
+    if first.is_empty() {
+        return Ok(None);
+    }
+    let x = known_column(source, head, first)?;
+    let y = known_column(source, head, second)?;
+    let columns = if third.is_empty() {
+        Columns::Two([x, y])
+    } else {
+        Columns::Three([x, y, known_column(source, head, third)?])
+    };
+    say_repeated(columns, &[first, second, third])?;
+    Ok(Some(columns))
+}
+
+// Says of the word of a column that it is the column of a word before it.
+fn say_repeated(columns: Columns, names: &[&[u8]]) -> Outcome {
+    for (axis, (column, name)) in columns.places().iter().zip(names).enumerate() {
+        if columns.axis_of(*column) != Some(axis) {
+            return Err(failed(name, "another coordinate has this column"));
+        }
+    }
+    Ok(())
 }
 
 // The columns that were chosen, or else the first ones, as many as the first line of numbers has.
-pub fn counted(columns: Columns, text: &[u8], layout: Layout) -> Columns
+pub fn counted(chosen: Option<Columns>, layout: Layout<'_>) -> Columns
     ensures { Unit {0} }
 {
-    if columns.chosen {
-        return columns;
-    }
-    first(fields_on(text, layout.first, layout.separator))
+    chosen.unwrap_or(Columns::First(layout.first_line().fields().count()))
 }
 
 // Keeps what is wrong with the first line of numbers: that there is none, or that it has neither 2 nor 3.
-pub fn check(columns: Columns, text: &[u8], first: usize, faults: &mut [usize; 61])
+pub fn check(columns: Columns, layout: Layout<'_>, faults: &mut Faults)
     ensures { Unit {0} }
 {
-    if text.len() <= first {
-        note(faults, NOTHING, first, first);
-        return;
+    if layout.source.text.len() <= layout.first {
+        faults.note_at(Wrong::Nothing, layout.first);
+    } else if !matches!(columns.count(), 2 | 3) {
+        faults.note_at(Wrong::Columns, layout.first);
     }
-    match columns.count {
-        2 | 3 => {}
-        _ => note(faults, COLUMNS, first, first),
-    }
-}
-
-fn wide(n: u32) -> usize {
-    n as usize
-}
-
-// The field of a coordinate of a point, whose line starts at its place among `starts`.
-pub fn field(
-    text: &[u8],
-    separator: u8,
-    columns: Columns,
-    starts: &[u32; 65536],
-    axis: usize,
-    point: usize,
-) -> Span
-    ensures { Unit {0} }
-{
-    field_of(
-        text,
-        wide(starts[point % 65536]),
-        separator,
-        column_of(columns, axis),
-    )
 }

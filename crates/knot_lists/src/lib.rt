@@ -3,6 +3,5 @@
 // Every function is proved safe, and to end; what is written no contract can say, and the gate compares it.
 #![tactic(auto)]
 
-pub mod lines;
+pub mod lists;
 pub mod notes;
-mod shared;

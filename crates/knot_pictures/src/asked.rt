@@ -1,28 +1,20 @@
 // The words of a command behind those that `index` has too (`asked` of `knot_files`): two or three axes, how many parts, and the column of
 // the weights. What is not asked for is an empty word.
-use words::{number_of, word};
+use words::Words;
 
-// The first word of the axes.
-pub(crate) const AXES: usize = 15;
-
-const INTO: usize = 18;
-
-const WEIGHTS: usize = 19;
-
-// Whether parts are asked for.
-pub(crate) fn parts(line: &[u8]) -> bool {
-    word(line, INTO).len() != 0
+pub(crate) fn axes(words: &Words) -> [&[u8]; 3] {
+    [words.word(15), words.word(16), words.word(17)]
 }
 
-// How many parts, 1 where none are asked for.
-pub(crate) fn count(line: &[u8]) -> u32 {
-    if parts(line) {
-        return number_of(word(line, INTO));
+// How many parts are asked for.
+pub(crate) fn parts(words: &Words) -> Option<u32> {
+    if words.is_empty(18) {
+        return None;
     }
-    1
+    Some(words.number_or_refused(18))
 }
 
 // The name or number of the weights' column.
-pub(crate) fn weights(line: &[u8]) -> &[u8] {
-    word(line, WEIGHTS)
+pub(crate) fn weights(words: &Words) -> &[u8] {
+    words.word(19)
 }

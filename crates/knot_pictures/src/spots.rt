@@ -1,8 +1,10 @@
-// What is drawn of a knot, in one number: its spot in tenths of a pixel from the upper left corner, whether it shares its cell, and its part.
-// The knots stand in the order of their indices.
+// Where knots are drawn, in tenths of a pixel from the upper left corner, and how they are marked.
 use crate::axes::Axes;
-use knot_rows::ends::value_of;
-use numbered_lines::places::{number_at, place_of};
+use divisions::division::{Along, Division, Point};
+use drawing::ends::Place;
+use knot_rows::knots::Knots;
+use knot_rows::sides::Side;
+use std::fmt;
 
 // How far the knots go across, up and aslant, and the room around them.
 pub(crate) const WIDTH: u64 = 8580;
@@ -14,147 +16,119 @@ const SLANT: u64 = 240;
 pub(crate) const ROOM: u64 = 300;
 
 // Whether a knot has its cell alone, is the first of those that share one, or another of them.
-pub(crate) const ALONE: u64 = 0;
-
-pub(crate) const FIRST: u64 = 1;
-
-pub(crate) const MORE: u64 = 2;
-
-pub(crate) fn x_of(knot: u64) -> u64 {
-    knot % 16384
+#[derive(Clone, Copy, Debug, PartialEq, Eq)]
+pub(crate) enum Mark {
+    Alone,
+    First,
+    More,
 }
 
-pub(crate) fn y_of(knot: u64) -> u64 {
-    knot / 16384 % 16384
+// What is drawn of a knot.
+#[derive(Clone, Copy)]
+pub(crate) struct Spot {
+    pub place: Place,
+    pub mark: Mark,
+    pub part: u32,
 }
 
-pub(crate) fn mark_of(knot: u64) -> u64 {
-    knot / 268435456 % 4
+impl Spot {
+    // Whether the knot shares its cell.
+    pub(crate) fn shares(self) -> bool {
+        self.mark != Mark::Alone
+    }
 }
 
-pub(crate) fn part_of(knot: u64) -> u64 {
-    knot / 1073741824 % 1024
+// A spot in a path.
+impl fmt::Display for Spot {
+    fn fmt<W: fmt::Write>(&self, f: &mut fmt::Formatter<W>) -> fmt::Result {
+        let Place { x, y } = self.place;
+        write!(f, "{x} {y}")
+    }
 }
 
-fn packed(x: u64, y: u64, mark: u64, part: u64) -> u64 {
-    x % 16384 + y % 16384 * 16384 + mark % 4 * 268435456 + part % 1024 * 1073741824
+// Knots that are drawn, in the box of these sides, on these axes, as they have been divided.
+#[derive(Clone, Copy)]
+pub(crate) struct Drawn<'a> {
+    pub knots: &'a Knots<'a>,
+    pub sides: &'a [Side<'a>],
+    pub axes: Axes,
+    pub division: Division<'a>,
 }
 
-// A size rounded, 0 where it is below 0.
-fn rounded(size: f64) -> u64 {
-    let n = size + 0.5;
-    if -1.0 < n {
-        if n < 18446744073709551616.0 {
-            return std::num::truncating_f64_to_u64(n);
+impl<'a> Drawn<'a> {
+    // The side of the box along an axis.
+    pub(crate) fn side(self, axis: usize) -> Side<'a> {
+        self.sides.get(axis).copied().unwrap_or_default()
+    }
+
+    // How far a knot lies along an axis of the box, of so much; half of it where the axis is flat.
+    fn on_axis(self, axis: usize, knot: usize, most: u64) -> u64 {
+        let side = self.side(axis).extent();
+        if side.low < side.high {
+            let share = (self.knots.value(axis, knot) - side.low) / (side.high - side.low);
+            let size = share * std::num::nearest_u64_to_f64(most);
+            return std::num::saturating_f64_to_u64(size + 0.5);
+        }
+        most / 2
+    }
+
+    // Where a knot is.
+    fn place_of(self, knot: usize) -> Place {
+        let Axes { across, up, aslant } = self.axes;
+        let aslant = aslant.map_or(0, |axis| self.on_axis(axis, knot, SLANT));
+        let right = self.on_axis(across, knot, WIDTH).saturating_add(aslant);
+        let up = self.on_axis(up, knot, HEIGHT).saturating_add(aslant);
+        Place {
+            x: right.saturating_add(ROOM),
+            y: (HEIGHT + ROOM).saturating_sub(up),
         }
     }
-    0
-}
 
-// How far a value lies from low to high, of so much; half of it where the axis is flat.
-fn along(value: f64, low: f64, high: f64, most: u64) -> u64 {
-    if low < high {
-        let share = (value - low) / (high - low);
-        return rounded(share * std::num::nearest_u64_to_f64(most));
-    }
-    most / 2
-}
-
-// How far a knot lies along an axis of the box.
-fn on_axis(values: &[f64; 196608], ends: &[f64; 6], axis: usize, point: usize, most: u64) -> u64 {
-    let i = axis % 3 * 2;
-    along(value_of(values, axis, point), ends[i], ends[i + 1], most)
-}
-
-// Whether the knots at two places of the order share their cell.
-fn share(indices: &[u64; 65536], order: &[u32; 65536], i: usize, k: usize) -> bool {
-    number_at(indices, order, i) == number_at(indices, order, k)
-}
-
-// The mark of the knot at place `i` of n.
-fn mark(indices: &[u64; 65536], order: &[u32; 65536], i: usize, n: usize) -> u64 {
-    if 0 < i {
-        if share(indices, order, i - 1, i) {
-            return MORE;
-        }
-    }
-    let next = std::num::wrapping_add_usize(i, 1);
-    if next < n {
-        if share(indices, order, i, next) {
-            return FIRST;
-        }
-    }
-    ALONE
-}
-
-// How far a knot lies aslant, not at all where no axis goes there.
-fn aslant(values: &[f64; 196608], ends: &[f64; 6], axis: usize, point: usize) -> u64 {
-    if axis == 3 {
-        return 0;
-    }
-    on_axis(values, ends, axis, point, SLANT)
-}
-
-// How far a knot lies from the left, and from the top, which go on aslant.
-fn from_left(across: u64, aslant: u64) -> u64 {
-    across % 16384 + aslant % 16384 + ROOM
-}
-
-fn from_top(up: u64, aslant: u64) -> u64 {
-    std::num::wrapping_sub_u64(HEIGHT + ROOM, up % 16384 + aslant % 16384)
-}
-
-// What is drawn of a knot with this mark and part.
-fn drawn(
-    values: &[f64; 196608],
-    ends: &[f64; 6],
-    axes: Axes,
-    point: usize,
-    mark: u64,
-    part: u64,
-) -> u64 {
-    let across = on_axis(values, ends, axes.across, point, WIDTH);
-    let up = on_axis(values, ends, axes.up, point, HEIGHT);
-    let aslant = aslant(values, ends, axes.aslant, point);
-    packed(from_left(across, aslant), from_top(up, aslant), mark, part)
-}
-
-// Puts down what is drawn of n knots.
-pub(crate) fn fill(
-    knots: &mut [u64; 65536],
-    n: usize,
-    values: &[f64; 196608],
-    ends: &[f64; 6],
-    axes: Axes,
-    indices: &[u64; 65536],
-    parts: &[u32; 65536],
-    order: &[u32; 65536],
-) {
-    for i in 0..65536usize {
-        if i < n {
-            let point = place_of(order, i);
-            let mark = mark(indices, order, i, n);
-            knots[i] = drawn(
-                values,
-                ends,
-                axes,
-                point,
-                mark,
-                place_of(parts, point) as u64,
-            );
+    // The spots of the knots in the order of their indices.
+    pub(crate) fn spots(self) -> Spots<'a> {
+        Spots {
+            drawn: self,
+            last: None,
+            rest: self.division.along(),
         }
     }
 }
 
-// How many of n knots have this mark.
-pub(crate) fn count(knots: &[u64; 65536], n: usize, mark: u64) -> u64 {
-    let mut sum: u64 = 0;
-    for i in 0..65536usize {
-        if i < n {
-            if mark_of(knots[i]) == mark {
-                sum = std::num::wrapping_add_u64(sum, 1);
-            }
+// The spots that are still to come, and the index of the last that came.
+#[derive(Clone, Copy)]
+pub(crate) struct Spots<'a> {
+    drawn: Drawn<'a>,
+    last: Option<u64>,
+    rest: Along<'a>,
+}
+
+impl Spots<'_> {
+    // The mark of a point between the last one and those that are still to come.
+    fn mark_of(self, point: Point) -> Mark {
+        let mut ahead = self.rest;
+        if self.last == Some(point.index) {
+            return Mark::More;
+        }
+        match ahead.next() {
+            Some(next) if next.index == point.index => Mark::First,
+            _ => Mark::Alone,
         }
     }
-    sum
+}
+
+impl Iterator for Spots<'_> {
+    type Item = Spot;
+
+    ghost remaining = { λ s. ⟦<Along<'static> as Iterator>⟧.remaining s.rest };
+
+    fn next(&mut self) -> Option<Spot> {
+        let point = self.rest.next()?;
+        let mark = self.mark_of(point);
+        self.last = Some(point.index);
+        Some(Spot {
+            place: self.drawn.place_of(point.number),
+            mark,
+            part: point.part,
+        })
+    }
 }

@@ -1,7 +1,8 @@
-// Knots out of the lines of a file, and the box around them.
+// Knots out of the lines of a file (`knots`, `values`), and the box around them (`sides`).
 //
 // Every function is proved safe, and to end; what is read the gate compares.
 #![tactic(auto)]
 
-pub mod ends;
-pub mod rows;
+pub mod knots;
+pub mod sides;
+mod values;

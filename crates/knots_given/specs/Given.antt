@@ -2,6 +2,8 @@
 use Rattle.std.specs.Prelude.{ℕ, Bool, not, ◌||◌, List, [], ◌∷◌, eqb, length, get_or, Float}
 use Rattle.rules.specs.Sums.{any, list}
 use Rattle.rules.specs.Refusals.{Test, test, first_of, top2, top3, nought, order_over, no_points, lengths_off, value_unfit, axis_thin, reversed, outside}
+use Rattle.rules.specs.declared.refusal.Refusal.{Refusal}
+use Rattle.rules.specs.declared.refusal.Refusal.TheVariants.{Order, NoPoints, Lengths, Value, Thin, Outside}
 use Rattle.rules.specs.Curve.{plane, space, cell2, cell3, index_of}
 use Rattle.rules.specs.Axis.{axis_of, low_of, high_of, order_of, made_up, cell_on}
 use Rattle.rules.specs.Knots.{Filed, filed_by}
@@ -22,32 +24,32 @@ on xs a = record { points = xs; axis = a }
 unfoldable pub foreign : ℕ → Axis → Bool
 foreign order a = made_up a || not (eqb (order_of a) order)
 
--- what is asked of an axis and its points, and its number
+-- what is asked of an axis and its points, and why a call that passes it is refused
 pub record Question : Type 0 where
   pub passes : Given → Bool
-  pub number : ℕ
+  pub refusal : Refusal
 
-abbrev pub ask : ℕ → (Given → Bool) → Question
-ask n p = record { passes = p; number = n }
+abbrev pub ask : Refusal → (Given → Bool) → Question
+ask r p = record { passes = p; refusal = r }
 
 unfoldable pub questions : ℕ → List Question
 questions order =
-    ask 6 (λ g. any value_unfit (low_of g.axis ∷ high_of g.axis ∷ []))
-    ∷ ask 8 (λ g. reversed (low_of g.axis) (high_of g.axis))
-    ∷ ask 7 (λ g. axis_thin (low_of g.axis) (high_of g.axis))
-    ∷ ask 8 (λ g. foreign order g.axis)
-    ∷ ask 6 (λ g. any value_unfit g.points)
-    ∷ ask 8 (λ g. any (outside (low_of g.axis) (high_of g.axis)) g.points) ∷ []
+    ask Value (λ g. any value_unfit (low_of g.axis ∷ high_of g.axis ∷ []))
+    ∷ ask Outside (λ g. reversed (low_of g.axis) (high_of g.axis))
+    ∷ ask Thin (λ g. axis_thin (low_of g.axis) (high_of g.axis))
+    ∷ ask Outside (λ g. foreign order g.axis)
+    ∷ ask Value (λ g. any value_unfit g.points)
+    ∷ ask Outside (λ g. any (outside (low_of g.axis) (high_of g.axis)) g.points) ∷ []
 
 -- each is asked of all axes before the next
 unfoldable pub asked_of : List Given → List Question → List Test
 asked_of axes [] = []
-asked_of axes (q ∷ qs) = test (any q.passes axes) q.number ∷ asked_of axes qs
+asked_of axes (q ∷ qs) = test (any q.passes axes) q.refusal ∷ asked_of axes qs
 
 -- of n points: the order, the lengths of the other coordinate slices and of the index slice, the axes
 unfoldable pub on_tests : ℕ → ℕ → ℕ → List ℕ → List Given → List Test
 on_tests most order n lengths axes =
-    test (order_over most order) 1 ∷ test (no_points n) 4 ∷ test (lengths_off n lengths) 5 ∷ asked_of axes (questions order)
+    test (order_over most order) Order ∷ test (no_points n) NoPoints ∷ test (lengths_off n lengths) Lengths ∷ asked_of axes (questions order)
 
 -- ON RECORDS: of the coordinates, their axes, the order, and what the index slice holds
 

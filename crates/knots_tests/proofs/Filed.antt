@@ -1,40 +1,25 @@
 -- What a call on points files: after a refusal its number, the index slice as it was, else 0 and what is written. Assumes nothing.
-use Prim.Native.Nat.{ℕ, ◌<◌}
-use native.Mathlib.Nat.{pos_of_ne-zero}
-use mathlib.Core.Path.{◌≡◌, sym, subst, ◌∙◌}
-use mathlib.Core.Bool.{Bool, true, false}
+use Prim.Native.Nat.{ℕ}
+use native.Mathlib.Omega.{arith}
+use mathlib.Core.Path.{◌≡◌, sym, ap, ◌∙◌}
 use mathlib.Core.List.{List}
-use lib.Ieee.{Float}
-use Rattle.rules.specs.Refusals.{first_of, index_tests, slice_by}
-use Rattle.rules.specs.Knots.{Filed, filed_by, some_unfit}
+use Rattle.std.specs.Prelude.{Ok, Err}
+use Rattle.rules.specs.Refusals.{Test, first_of, answer_by, number_of, number_in, slice_by}
+use Rattle.rules.specs.Knots.{filed_by}
+use Rattle.rules.specs.declared.refusal.Refusal.{Refusal}
 use Rattle.laws.proofs.Exactly.{untouched}
-use Rattle.knots_tests.specs.Tests.{point_tests}
-use Rattle.knots_tests.proofs.Earlier.{points_refused, points_passed}
+use Rattle.laws.proofs.Numbers.{number_above_0}
+use Rattle.laws.proofs.Readings.{number_of_answer, answered_by}
 
--- the two clauses of such a call, by their names
-pub clauses : {A B : Type 0} → A × B → record { value : A; indices_after : B }
-clauses p = record { value = p.0; indices_after = p.1 }
+module _ (ts : List Test) (written before : List ℕ) where
+  pub files_refusal : (r : Refusal) → answer_by {A = Unit {0}} ts tt ≡ Err r
+      → record { value : number_of r ≡ (filed_by (first_of ts) written before).number; indices_after : before ≡ (filed_by (first_of ts) written before).indices }
+  files_refusal r e =
+      let is : number_of r ≡ first_of ts = sym (ap number_in e) ∙ number_of_answer {A = Unit {0}} ts tt in
+      let l = number_above_0 r in
+      record { value = is; indices_after = sym (untouched (first_of ts) written before (omega (arith, is))) }
 
--- a call whose tests give n
-module _ (n : ℕ) (written before : List ℕ) where
-  pub files_refusal : (r : ℕ) → r ≡ n → (r ≡ 0 → ⊥) → (r ≡ (filed_by n written before).number) × (before ≡ (filed_by n written before).indices)
-  files_refusal r e f = (e, sym (untouched n written before (subst (λ (m : ℕ). 0 < m) e (pos_of_ne-zero f))))
-
-  pub files_answer : n ≡ 0 → (r : ℕ) (after : List ℕ) → r ≡ 0 → after ≡ written → (r ≡ (filed_by n written before).number) × (after ≡ (filed_by n written before).indices)
+  pub files_answer : (after : List ℕ) → answer_by {A = Unit {0}} ts tt ≡ Ok tt → after ≡ written
+      → record { value : 0 ≡ (filed_by (first_of ts) written before).number; indices_after : after ≡ (filed_by (first_of ts) written before).indices }
   unfolding slice_by
-  files_answer z r after s w = (s ∙ sym z, rw (z, w))
-
-module _ (most order n : ℕ) (lengths : List ℕ) (axes : List (List Float)) (thin : Bool) (written before : List ℕ) where
-  abbrev pub filed : Filed
-  filed = filed_by (first_of (index_tests most order n lengths (some_unfit axes) thin)) written before
-
-  pub refused_early : (r : ℕ) → r ≡ first_of (point_tests most order n lengths axes) → (r ≡ 0 → ⊥) → (r ≡ filed.number) × (before ≡ filed.indices)
-  refused_early r e f = files_refusal _ written before r (points_refused most order n lengths axes thin r e f) f
-
-  pub refused_thin : first_of (point_tests most order n lengths axes) ≡ 0 → thin ≡ true → (r : ℕ) → r ≡ 7 → (r ≡ filed.number) × (before ≡ filed.indices)
-  unfolding slice_by
-  refused_thin e t r s = let is : filed.number ≡ 7 = points_passed most order n lengths axes e thin ∙ rw t in (s ∙ sym is, rw is)
-
-  pub answered : first_of (point_tests most order n lengths axes) ≡ 0 → thin ≡ false → (r : ℕ) (after : List ℕ) → r ≡ 0 → after ≡ written
-      → (r ≡ filed.number) × (after ≡ filed.indices)
-  answered e t = files_answer _ written before (points_passed most order n lengths axes e thin ∙ rw t)
+  files_answer after e w = let z = (answered_by {A = Unit {0}} ts tt tt e).0 in record { value = sym z; indices_after = rw (z, w) }

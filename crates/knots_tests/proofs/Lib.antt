@@ -1,4 +1,3 @@
-pub mod Earlier
-pub mod Passed
+pub mod Shape
 pub mod Filed
 pub mod Once

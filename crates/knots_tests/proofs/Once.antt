@@ -1,17 +1,18 @@
 -- No second answer fits the contract of a function that another crate calls. Assumes nothing.
+use mir.Syntax.{Dict}
+use denote.RattleType.{RattleType}
+use denote.Param.Laws.{Laws}
 use Rattle.laws.proofs.Only.{Only, same}
-use Rattle.knots_tests.proofs.shape_refusal.Kinds as shape-refusal-kinds
-use Rattle.knots_tests.proofs.shape_refusal.Reads as shape-refusal-reads
-use Rattle.knots_tests.proofs.refusal_2d.Kinds as refusal-2d-kinds
-use Rattle.knots_tests.proofs.refusal_2d.Reads as refusal-2d-reads
-use Rattle.knots_tests.proofs.refusal_3d.Kinds as refusal-3d-kinds
-use Rattle.knots_tests.proofs.refusal_3d.Reads as refusal-3d-reads
+use Rattle.points.specs.declared.Points.{Ghosts}
+use Rattle.knots_tests.proofs.test_shape.Kinds as test-shape-kinds
+use Rattle.knots_tests.proofs.test_shape.Reads as test-shape-reads
+use Rattle.knots_tests.proofs.test_points.Kinds as test-points-kinds
+use Rattle.knots_tests.proofs.test_points.Reads as test-points-reads
 
-pub shape_refusal_only : Only shape-refusal-kinds.ps shape-refusal-kinds.r shape-refusal-reads.Post
-shape_refusal_only κs a y z e f p q = same p q
+-- of whatever has points
+module _ (P : RattleType) (l : Laws P) (points : Ghosts P.Denot) (d : Dict) where
+  pub test_shape_only : Only (test-shape-kinds.ps P l) (test-shape-kinds.r P l) (test-shape-reads.Post P l points d)
+  test_shape_only κs a y z e f p q = same p q
 
-pub refusal_2d_only : Only refusal-2d-kinds.ps refusal-2d-kinds.r refusal-2d-reads.Post
-refusal_2d_only κs a y z e f p q = same p q
-
-pub refusal_3d_only : Only refusal-3d-kinds.ps refusal-3d-kinds.r refusal-3d-reads.Post
-refusal_3d_only κs a y z e f p q = same p q
+pub test_points_only : Only test-points-kinds.ps test-points-kinds.r test-points-reads.Post
+test_points_only κs a y z e f p q = same p q

@@ -1,57 +1,56 @@
--- Tests in order give exactly the number of the first that passes, where each number is other than 0. Assumes nothing.
+-- Tests in order give exactly the number of the first that passes. Assumes nothing.
 use Prim.Native.Nat.{ℕ, zero, suc, ◌<◌}
 use mathlib.Core.Path.{◌≡◌, refl}
-use mathlib.Core.Bool.{Bool, true, false, ◌&&◌, true≢false, false≢true}
+use mathlib.Core.Bool.{Bool, true, false, true≢false, false≢true}
 use mathlib.Core.List.{List, [], ◌∷◌, ◌++◌}
 use native.Mathlib.Omega.{arith}
-use lib.Dec.{T, ltb, ltb→lt}
-use lib.Ieee.Fits.{and_l, and_r}
-use Rattle.rules.specs.Refusals.{Reading, Test, test, refuse, first_of, slice_by}
+use Rattle.rules.specs.Refusals.{Reading, Test, test, refuse, first_of, number_of, answer_by, read, slice_by}
+use Rattle.rules.specs.declared.refusal.Refusal.{Refusal}
 use Rattle.rules.specs.Demands.{FirstIs, NonePasses, number_at, Exactly}
-use Rattle.laws.proofs.Readings.{value_by}
-
--- no test has the number 0
-abbrev pub numbered : List Test → Bool
-numbered [] = true
-numbered (t ∷ ts) = ltb 0 t.number && numbered ts
+use Rattle.laws.proofs.Numbers.{number_above_0}
+use Rattle.laws.proofs.Readings.{value_by, reading_of}
 
 -- one test more, which passes or not
-passed : (n : ℕ) (ts : List Test) (i : ℕ) → FirstIs (test true n ∷ ts) i → n ≡ number_at (test true n ∷ ts) i
-passed n ts zero f = refl
-passed n ts (suc i) f = absurd (true≢false f.0)
+passed : (r : Refusal) (ts : List Test) (i : ℕ) → FirstIs (test true r ∷ ts) i → number_of r ≡ number_at (test true r ∷ ts) i
+passed r ts zero f = refl
+passed r ts (suc i) f = absurd (true≢false f.0)
 
-failed : (n m : ℕ) (ts : List Test) → ((i : ℕ) → FirstIs ts i → m ≡ number_at ts i) → (i : ℕ) → FirstIs (test false n ∷ ts) i → m ≡ number_at (test false n ∷ ts) i
-failed n m ts e zero f = absurd (false≢true f)
-failed n m ts e (suc i) f = e i f.1
+failed : (r : Refusal) (m : ℕ) (ts : List Test) → ((i : ℕ) → FirstIs ts i → m ≡ number_at ts i) → (i : ℕ) → FirstIs (test false r ∷ ts) i
+    → m ≡ number_at (test false r ∷ ts) i
+failed r m ts e zero f = absurd (false≢true f)
+failed r m ts e (suc i) f = e i f.1
 
-more : (b : Bool) (n : ℕ) (ts : List Test) → 0 < n → Exactly ts (first_of ts) → Exactly (test b n ∷ ts) (refuse b n (first_of ts))
-more true n ts p e =
-    record { first = passed n ts; none = λ f. absurd (true≢false f.0); refused = λ _. (0, refl, refl); answered = λ z. absurd (omega arith) }
-more false n ts p e =
+more : (b : Bool) (r : Refusal) (ts : List Test) → Exactly ts (first_of ts) → Exactly (test b r ∷ ts) (refuse b (number_of r) (first_of ts))
+more true r ts e =
     record {
-      first = failed n (first_of ts) ts e.first;
+      first = passed r ts;
+      none = λ f. absurd (true≢false f.0);
+      refused = λ _. (0, refl, refl);
+      answered = λ z. let l = number_above_0 r in absurd (omega arith);
+    }
+more false r ts e =
+    record {
+      first = failed r (first_of ts) ts e.first;
       none = λ f. e.none f.1;
-      refused = λ l. let r = e.refused l in (suc r.0, (refl, r.1), r.2);
+      refused = λ l. let at = e.refused l in (suc at.0, (refl, at.1), at.2);
       answered = λ z. (refl, e.answered z);
     }
 
-pub exactly : (ts : List Test) → T (numbered ts) → Exactly ts (first_of ts)
-exactly [] n = record { first = λ i f. absurd f; none = λ _. refl; refused = λ l. absurd (omega arith); answered = λ _. tt }
-exactly (t ∷ ts) n =
-    more t.passes t.number ts (ltb→lt 0 t.number (and_l (ltb 0 t.number) (numbered ts) n))
-    (exactly ts (and_r (ltb 0 t.number) (numbered ts) n))
+pub exactly : (ts : List Test) → Exactly ts (first_of ts)
+exactly [] = record { first = λ i f. absurd f; none = λ _. refl; refused = λ l. absurd (omega arith); answered = λ _. tt }
+exactly (t ∷ ts) = more t.passes t.refusal ts (exactly ts)
 
 -- what the tests say once they are passed
-pub none_passes : (ts : List Test) → T (numbered ts) → first_of ts ≡ 0 → NonePasses ts
-none_passes ts n = (exactly ts n).answered
+pub none_passes : (ts : List Test) → first_of ts ≡ 0 → NonePasses ts
+none_passes ts = (exactly ts).answered
 
 -- of tests behind others: those count where none of the others passes
 pub first_earlier : (ts us : List Test) (n : ℕ) → first_of ts ≡ suc n → first_of (ts ++ us) ≡ suc n
 first_earlier [] us n e = absurd (omega arith)
 first_earlier (t ∷ ts) us n e = go t.passes (first_earlier ts us n) e
   where
-    go : (b : Bool) → (first_of ts ≡ suc n → first_of (ts ++ us) ≡ suc n) → refuse b t.number (first_of ts) ≡ suc n
-        → refuse b t.number (first_of (ts ++ us)) ≡ suc n
+    go : (b : Bool) → (first_of ts ≡ suc n → first_of (ts ++ us) ≡ suc n) → refuse b (number_of t.refusal) (first_of ts) ≡ suc n
+        → refuse b (number_of t.refusal) (first_of (ts ++ us)) ≡ suc n
     go true f e = e
     go false f e = f e
 
@@ -67,6 +66,9 @@ pub record Refuses {A : Type 0} (ts : List Test) (r : Reading A) (zeros : A) : T
 pub refuses : {A : Type 0} (ts : List Test) (n : ℕ) (v zeros : A) → Exactly ts n → Refuses ts (value_by n v zeros) zeros
 refuses ts zero v zeros e = record { number = e; value = λ l. absurd (omega arith) }
 refuses ts (suc n) v zeros e = record { number = e; value = λ _. refl }
+
+pub answer_refuses : {A : Type 0} (ts : List Test) (value zeros : A) → Refuses ts (read zeros (answer_by ts value)) zeros
+answer_refuses ts value zeros = rw (reading_of ts value zeros) (refuses ts (first_of ts) value zeros (exactly ts))
 
 -- and of a lent slice, which is untouched after one
 pub untouched : (n : ℕ) (written before : List ℕ) → 0 < n → slice_by n written before ≡ before

@@ -1,37 +1,56 @@
--- What each answer stands for: the number that made it, and its value where that number is 0, else zeros. Assumes nothing.
-use Prim.Native.Nat.{ℕ, zero, suc}
+-- What an answer stands for: the number of the first test that passes, and its value where none does, else zeros. Assumes nothing.
+use Prim.Native.Nat.{ℕ, zero, suc, ◌<◌}
 use mathlib.Core.Path.{◌≡◌, refl}
-use mathlib.Core.List.{[], ◌∷◌}
-use Rattle.rules.specs.Refusals.{nought, Reading, coded_by, cell2_by, cell3_by, axis_by, cell_by, read_coded, read_cell2, read_cell3, read_axis, read_cell}
-use Rattle.rules.specs.declared.Axis.{Axis}
-use Rattle.rules.specs.declared.Axis.TheVariants.{Flat}
+use mathlib.Core.Bool.{Bool, true, false}
+use mathlib.Core.List.{List, [], ◌∷◌}
+use native.Mathlib.Omega.{arith}
+use Rattle.std.specs.Prelude.{Ok, Err, cond}
+use Rattle.rules.specs.Refusals.{Reading, Test, refuse, first_of, answer_by, number_of, number_in, read}
+use Rattle.laws.proofs.Numbers.{number_above_0}
 
 -- a value where the number is 0, else another
 abbrev pub value_by : {A : Type 0} → ℕ → A → A → Reading A
 value_by zero value zeros = record { number = 0; value = value }
 value_by (suc n) value zeros = record { number = suc n; value = zeros }
 
-pub read_coded_lem : (n i : ℕ) → read_coded (coded_by n i) ≡ value_by n i 0
-unfolding coded_by
-read_coded_lem zero i = refl
-read_coded_lem (suc n) i = refl
+refused_value : {A : Type 0} (n : ℕ) (value zeros : A) → 0 < n → record { number = n; value = zeros } ≡ value_by n value zeros
+refused_value zero value zeros l = absurd (omega arith)
+refused_value (suc n) value zeros l = refl
 
-pub read_cell2_lem : (n x y : ℕ) → read_cell2 (cell2_by n x y) ≡ value_by n (x ∷ y ∷ []) (0 ∷ 0 ∷ [])
-unfolding cell2_by
-read_cell2_lem zero x y = refl
-read_cell2_lem (suc n) x y = refl
+pub reading_of : {A : Type 0} (ts : List Test) (value zeros : A) → read zeros (answer_by ts value) ≡ value_by (first_of ts) value zeros
+reading_of [] value zeros = refl
+reading_of (t ∷ ts) value zeros = go t.passes (reading_of ts value zeros)
+  where
+    go : (b : Bool) → read zeros (answer_by ts value) ≡ value_by (first_of ts) value zeros
+        → read zeros (cond b (Err t.refusal) (answer_by ts value)) ≡ value_by (refuse b (number_of t.refusal) (first_of ts)) value zeros
+    go true e = refused_value (number_of t.refusal) value zeros (number_above_0 t.refusal)
+    go false e = e
 
-pub read_cell3_lem : (n x y z : ℕ) → read_cell3 (cell3_by n x y z) ≡ value_by n (x ∷ y ∷ z ∷ []) (0 ∷ 0 ∷ 0 ∷ [])
-unfolding cell3_by
-read_cell3_lem zero x y z = refl
-read_cell3_lem (suc n) x y z = refl
+-- the number of an answer is that of the first test that passes, and its value is there where none does
+pub number_of_answer : {A : Type 0} (ts : List Test) (value : A) → number_in (answer_by ts value) ≡ first_of ts
+number_of_answer [] value = refl
+number_of_answer (t ∷ ts) value = go t.passes (number_of_answer ts value)
+  where
+    go : (b : Bool) → number_in (answer_by ts value) ≡ first_of ts
+        → number_in (cond b (Err t.refusal) (answer_by ts value)) ≡ refuse b (number_of t.refusal) (first_of ts)
+    go true e = refl
+    go false e = e
 
-pub read_axis_lem : (n : ℕ) (a : Axis) → read_axis (axis_by n a) ≡ value_by n a (Flat nought nought 0)
-unfolding axis_by
-read_axis_lem zero a = refl
-read_axis_lem (suc n) a = refl
+pub answered : {A : Type 0} (ts : List Test) (value : A) → first_of ts ≡ 0 → answer_by ts value ≡ Ok value
+answered [] value z = refl
+answered (t ∷ ts) value z = go t.passes (answered ts value) z
+  where
+    go : (b : Bool) → (first_of ts ≡ 0 → answer_by ts value ≡ Ok value) → refuse b (number_of t.refusal) (first_of ts) ≡ 0
+        → cond b (Err t.refusal) (answer_by ts value) ≡ Ok value
+    go true f z = let l = number_above_0 t.refusal in absurd (omega arith)
+    go false f z = f z
 
-pub read_cell_lem : (n c : ℕ) → read_cell (cell_by n c) ≡ value_by n c 0
-unfolding cell_by
-read_cell_lem zero c = refl
-read_cell_lem (suc n) c = refl
+-- and an answer that is a value passes no test
+pub answered_by : {A : Type 0} (ts : List Test) (value v : A) → answer_by ts value ≡ Ok v → (first_of ts ≡ 0) × (value ≡ v)
+answered_by [] value v e = (refl, cc)
+answered_by (t ∷ ts) value v e = go t.passes (answered_by ts value v) e
+  where
+    go : (b : Bool) → (answer_by ts value ≡ Ok v → (first_of ts ≡ 0) × (value ≡ v)) → cond b (Err t.refusal) (answer_by ts value) ≡ Ok v
+        → (refuse b (number_of t.refusal) (first_of ts) ≡ 0) × (value ≡ v)
+    go true f e = cc
+    go false f e = f e

@@ -14,14 +14,16 @@ ghost use Rattle.std.specs.Prelude.{◌≡◌, ◌^◌, ◌≤◌, ◌<◌, set}
 ghost use Rattle.lightest.specs.Tree.{lighter_of, id_at, root, Knows, Knew, Ready, worked_out};
 
 // How many leaves a tree of so many levels has.
-fn leaves_of(depth: u32) -> usize
+pub fn leaves_of(depth: u32) -> usize
     requires { depth ≤ 12 }
-    ensures { result ≡ 2 ^ depth }
+    ensures value { result ≡ 2 ^ depth }
+    ensures few { (0 < result) × (result ≤ 4096) }
 {
     1usize << depth
 }
 
 // The lighter of two parts; of equals the first.
+#[tactic(auto, unfolding(rules::specs::Sums::pick, crate::specs::Tree::lighter_of))]
 fn lighter(parts: &[u64; 4096], a: usize, b: usize) -> usize
     requires { (a < 4096) × (b < 4096) }
     ensures { result ≡ lighter_of parts.now a b }
@@ -30,6 +32,7 @@ fn lighter(parts: &[u64; 4096], a: usize, b: usize) -> usize
 }
 
 // The id at a node.
+#[tactic(auto, unfolding(rules::specs::Sums::pick, crate::specs::Tree::id_at))]
 fn id_at(leaves: usize, node: usize, tree: &[usize; 4096]) -> usize
     requires { leaves ≤ 4096 }
     ensures { result ≡ id_at leaves tree.now node }
@@ -58,10 +61,8 @@ pub fn make(depth: u32, parts: &[u64; 4096], tree: &mut [usize; 4096])
 {
     *tree = [0usize; 4096];
     let leaves = leaves_of(depth);
-    let mut next = leaves - 1;
-    while 0 < next {
-        work_out(leaves, next, parts, tree);
-        next -= 1;
+    for node in (1..leaves).rev() {
+        work_out(leaves, node, parts, tree);
     }
 }
 
@@ -73,6 +74,7 @@ pub fn raised(depth: u32, id: usize, parts: &[u64; 4096], tree: &mut [usize; 409
 {
     let leaves = leaves_of(depth);
     let mut node = (leaves + id) / 2;
+    // A `while`: each step goes to half the node, and the way may end before the root.
     while 0 < node {
         if tree[node] != id {
             return;

@@ -1,12 +1,16 @@
 -- How much nested sums can weigh, and one term more of each.
-use Prim.Native.Nat.{ℕ, ◌+◌, ◌*◌, ◌≤◌, ◌<◌}
+use Prim.Native.Nat.{ℕ, zero, suc, ◌+◌, ◌-◌, ◌*◌, ◌≤◌, ◌<◌}
 use native.Mathlib.Omega.{arith}
-use native.Mathlib.Nat.{mul-le-mul_left}
-use mathlib.Core.Path.{◌≡◌}
+use native.Mathlib.Numerals.{add-one}
+use mathlib.Core.Path.{◌≡◌, refl, ap, ◌∙◌}
 use mathlib.Core.List.{List}
-use lib.ListN.{get_or, length}
+use lib.ListN.{get_or, length, take, drop, length-drop}
+use Rattle.std.specs.List.{sum}
+use Rattle.std.proofs.lemmas.List.{get_or-drop}
+use Rattle.std.proofs.lemmas.List.Sums.{sum_by_more}
+use Rattle.rules.specs.Sums.{total}
 use Rattle.rules.specs.Refusals.{top_weight}
-use Rattle.laws.proofs.Totals.{total_more, total_le}
+use Rattle.laws.proofs.Totals.{total_more, total_le, total_ext}
 use Rattle.lines.specs.Stacks.{run_sum, sheet_sum, solid_sum, Light, RunFits, SheetFits}
 use Rattle.lines.specs.declared.Stack.{Stack}
 
@@ -27,9 +31,17 @@ module _ (ws : List ℕ) (light : Light ws) where
       total_le (λ k. sheet_sum ws (start + s.layer * k) s s.height) 17592184995840 n
       (λ k l. omega (arith, sheet_light (start + s.layer * k) s s.height (f k l).each, (f k l).short))
 
-pub run_more : (ws : List ℕ) (start i : ℕ) → run_sum ws start (i + 1) ≡ run_sum ws start i + get_or ws (start + i) 0
+-- what the code sums of a row of cells
+sum_is : (xs : List ℕ) (n : ℕ) → n ≤ length xs → sum (take n xs) ≡ total (λ i. get_or xs i 0) n
+unfolding total
+sum_is xs zero h = refl
+sum_is xs (suc n) h = rw add-one at (sum_by_more (λ x. x) xs n 0 h) ∙ ap (λ (k : ℕ). k + get_or xs n 0) (sum_is xs n (omega arith))
+
+pub run_is : (ws : List ℕ) (start n at : ℕ) → at ≡ start → start + n ≤ length ws → sum (take ((at + n) - at) (drop at ws)) ≡ run_sum ws start n
 unfolding run_sum
-run_more ws start i = total_more (λ i. get_or ws (start + i) 0) i
+run_is ws start n at p h =
+    let e : (start + n) - start ≡ n = omega arith in
+    rw (p, e) (sum_is (drop start ws) n (omega (arith, length-drop start ws)) ∙ total_ext _ _ n (λ i l. get_or-drop start ws i 0))
 
 pub sheet_more : (ws : List ℕ) (start : ℕ) (s : Stack) (j : ℕ) → sheet_sum ws start s (j + 1) ≡ sheet_sum ws start s j + run_sum ws (start + s.row * j) s.width
 unfolding sheet_sum
@@ -38,9 +50,3 @@ sheet_more ws start s j = total_more (λ j. run_sum ws (start + s.row * j) s.wid
 pub solid_more : (ws : List ℕ) (start : ℕ) (s : Stack) (k : ℕ) → solid_sum ws start s (k + 1) ≡ solid_sum ws start s k + sheet_sum ws (start + s.layer * k) s s.height
 unfolding solid_sum
 solid_more ws start s k = total_more (λ k. sheet_sum ws (start + s.layer * k) s s.height) k
-
-pub reach_next : {j m : ℕ} (row : ℕ) → j < m → row * j + row ≤ row * m
-reach_next {j} {m} row h = omega (arith, mul-le-mul_left row (next h))
-  where
-    next : j < m → j + 1 ≤ m
-    next h = omega arith

@@ -3,16 +3,14 @@
 //   run     some cells in a row
 //   sheet   runs, `row` apart
 //   solid   sheets, `layer` apart: what a block and a line of it are; in 2D one sheet
-//   lines   solids, `jump` apart, their weights summed into an array of 1,024
+//   lines   solids, `jump` apart, their weights summed into a slice of as many sums
 //
-// Each sum is that of the rules' weights (run_sum, sheet_sum, solid_sum), and what stood in the array behind the lines stays
-// (line_sums_only).
+// Each sum is that of the rules' weights (run_sum, sheet_sum, solid_sum; line_sums_only).
 #![tactic(auto)]
 
-ghost use Rattle.std.specs.Prelude.{◌≡◌, ◌++◌, length, drop};
+ghost use Rattle.std.specs.Prelude.{◌≡◌, ◌<◌, ◌^◌, length, sum};
 ghost use Rattle.rules.specs.Sums.{list};
-ghost use Rattle.rules.specs.Refusals.{top_side};
-ghost use Rattle.lines.specs.Stacks.{run_sum, sheet_sum, solid_sum, line_of, Light, RunFits, SheetFits, SolidFits, LinesFit};
+ghost use Rattle.lines.specs.Stacks.{sheet_sum, solid_sum, line_of, Light, SheetFits, SolidFits, LinesFit};
 
 // `layers` sheets, `layer` apart, of `height` runs, `row` apart, of `width` cells.
 #[derive(Clone, Copy)]
@@ -24,20 +22,19 @@ pub struct Stack {
     pub layers: usize,
 }
 
-// The weight of `n` cells from `start` on.
-fn run(weights: &[u64], start: usize, n: usize) -> u64
-    requires light { Light weights.now }
-    requires run_fits { RunFits weights.now start n }
-    ensures { result ≡ run_sum weights.now start n }
+// The weight of cells in a row. By a loop: a column is one of runs of one cell, and `sum` takes ten instructions more for each.
+fn run(cells: &[u64]) -> u64
+    requires { sum cells.now < 2 ^ 64 }
+    ensures { result ≡ sum cells.now }
 {
     let mut sum: u64 = 0;
-    for i in 0..n {
-        sum += weights[start + i];
+    for weight in cells {
+        sum += *weight;
     }
     sum
 }
 
-// The weight of a stack's sheet from `start` on.
+// The weight of a stack's sheet from `start` on. The place of a run is carried on from the one before, without a multiplication each.
 fn sheet(weights: &[u64], start: usize, s: Stack) -> u64
     requires light { Light weights.now }
     requires sheet_fits { SheetFits weights.now start s }
@@ -46,7 +43,7 @@ fn sheet(weights: &[u64], start: usize, s: Stack) -> u64
     let mut sum: u64 = 0;
     let mut at = start;
     for j in 0..s.height {
-        sum += run(weights, at, s.width);
+        sum += run(&weights[at..at + s.width]);
         at += s.row;
     }
     sum
@@ -59,31 +56,19 @@ pub fn solid(weights: &[u64], start: usize, s: Stack) -> u64
     ensures { result ≡ solid_sum weights.now start s s.layers }
 {
     let mut sum: u64 = 0;
-    let mut at = start;
     for k in 0..s.layers {
-        sum += sheet(weights, at, s);
-        at += s.layer;
+        sum += sheet(weights, start + s.layer * k, s);
     }
     sum
 }
 
-// Fills `sums` with the weights of `m` lines, the first a stack from `start` on and each `jump` behind the one before.
-pub fn line_sums(
-    weights: &[u64],
-    start: usize,
-    jump: usize,
-    m: usize,
-    s: Stack,
-    sums: &mut [u64; 1024],
-)
+// Fills `sums` with the weights of as many lines, the first a stack from `start` on and each `jump` behind the one before.
+pub fn line_sums(weights: &[u64], start: usize, jump: usize, s: Stack, sums: &mut [u64])
     requires light { Light weights.now }
-    requires lines_fit { LinesFit weights.now start jump m s }
-    requires sums_len { length sums.old ≡ top_side }
-    ensures { sums.new ≡ list (line_of weights.now start jump s) m ++ drop m sums.old }
+    requires lines_fit { LinesFit weights.now start jump (length sums.old) s }
+    ensures { sums.new ≡ list (line_of weights.now start jump s) (length sums.old) }
 {
-    let mut at = start;
-    for i in 0..m {
-        sums[i] = solid(weights, at, s);
-        at += jump;
+    for (i, sum) in sums.iter_mut().enumerate() {
+        *sum = solid(weights, start + jump * i, s);
     }
 }

@@ -9,7 +9,7 @@
 // exceed hi.
 #![tactic(auto)]
 
-ghost use Rattle.std.specs.Prelude.{◌≡◌, ◌<◌, ◌≤◌};
+ghost use Rattle.std.specs.Prelude.{◌≡◌, ◌<◌, ◌≤◌, length};
 ghost use Rattle.rules.specs.Refusals.{top_side};
 ghost use Rattle.rules.specs.Halving.{hi_of, edition_of};
 ghost use Rattle.median.specs.Median.{CutIs, LinesLight, line_at};
@@ -23,13 +23,14 @@ const ROUND_DOWN: u64 = 0;
 const ROUND_UP: u64 = 199;
 
 // How many lines lie before the cut, and what they weigh.
-#[derive(Drop)]
+#[derive(Clone, Copy)]
 pub struct WeightedMedian {
     pub position: usize,
     pub left: u64,
 }
 
-// lo of a block of weight `total`: the least that its left part should weigh.
+// lo of a block of weight `total`: the least that its left part should weigh. The edition is any number, and no enum of the known ones, since
+// edition_of of the rules answers of every number.
 pub fn min_part_weight(edition: u32, total: u64) -> u64
     requires { total < 35184372088832 }
     ensures { result ≡ (edition_of edition).lo total }
@@ -48,39 +49,31 @@ pub fn max_part_weight(total: u64) -> u64
     (101 * total + ROUND_DOWN) / 200
 }
 
-// The cut of the first `m` lines, where the lines before it should weigh `lo` to `hi`.
-pub fn weighted_median(sums: &[u64; 1024], m: usize, lo: u64, hi: u64) -> WeightedMedian
-    requires m_nonzero { (0 < m) × (m ≤ top_side) }
-    requires lines_light { LinesLight sums.now m }
-    ensures { CutIs (line_at sums.now) m lo hi result.position result.left }
+// The cut of lines, where those before it should weigh `lo` to `hi`.
+pub fn weighted_median(lines: &[u64], lo: u64, hi: u64) -> WeightedMedian
+    requires some { (0 < length lines.now) × (length lines.now ≤ top_side) }
+    requires lines_light { LinesLight lines.now }
+    ensures { CutIs (line_at lines.now) (length lines.now) lo hi result.position result.left }
 {
-    let mut last: u64 = 0;
-    let mut left: u64 = 0;
-    let mut j: usize = 0;
-    let mut before: usize = 0;
-    while j + 1 < m {
-        if lo <= left {
+    let mut cut = WeightedMedian {
+        position: 0,
+        left: 0,
+    };
+    let mut before = cut;
+    // The position is no count of the loop alone: it's kept beside the weight, and a line back where the cut is that of `before`.
+    for line in &lines[..lines.len() - 1] {
+        if lo <= cut.left {
             break;
         }
-        last = left;
-        left += sums[j];
-        before = j;
-        j += 1;
-    }
-    if left < lo {
-        return WeightedMedian {
-            position: j,
-            left: left,
+        before = cut;
+        cut = WeightedMedian {
+            position: cut.position + 1,
+            left: cut.left + *line,
         };
     }
-    if left <= hi {
-        return WeightedMedian {
-            position: j,
-            left: left,
-        };
-    }
-    WeightedMedian {
-        position: before,
-        left: last,
+    if lo <= cut.left && hi < cut.left {
+        before
+    } else {
+        cut
     }
 }

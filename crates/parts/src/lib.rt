@@ -13,26 +13,25 @@
 #![tactic(auto)]
 
 ghost use Rattle.std.specs.Prelude.{◌≡◌};
+ghost use Rattle.rules.specs.Refusals.{number_in};
 ghost use Rattle.requests.specs.Parts.{parts_along};
 
-use rules::ANSWERED;
+use rules::Refusal;
 
-// A part of n for each point, and the points in order: the number of refusal, and, where it is 0, parts and order written.
+// A part of n for each point, and the points in order: why the call is refused, or parts and order written.
 pub fn parts_along(
     n: u32,
     indices: &[u64],
     weights: &[u64],
     parts: &mut [u32],
     order: &mut [u32],
-) -> u32
-    ensures number { result ≡ (parts_along n indices.now weights.now parts.old order.old).number }
+) -> Result<(), Refusal>
+    ensures number { number_in result ≡ (parts_along n indices.now weights.now parts.old order.old).number }
     ensures parts { parts.new ≡ (parts_along n indices.now weights.now parts.old order.old).parts }
     ensures order { order.new ≡ (parts_along n indices.now weights.now parts.old order.old).order }
 {
-    let number = parts_tests::refusal(n, indices, weights, parts, order);
-    if number == ANSWERED {
-        sort::in_order(indices, order, parts);
-        shares::assign(n, indices, weights, order, parts);
-    }
-    number
+    parts_tests::test(n, indices, weights, parts, order)?;
+    sort::in_order(indices, order);
+    shares::assign(n, indices, weights, order, parts);
+    Ok(())
 }

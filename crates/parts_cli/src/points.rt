@@ -1,97 +1,54 @@
-// Points out of the lines of a list: the index and the weight of each, and where its line starts.
-use console::faults::{NOTHING, full, note};
+// Points out of the lines of a list.
+use console::faults::{Faults, Wrong};
+use console::source::Line;
+use console::starts::Starts;
 use divisions::weighed::read_weight;
-use whole_files::row;
-use whole_files::row::{Limit, Row};
+use knot_files::layout::Layout;
+use rules::Refusal;
+use whole_files::numbers::{Limit, Numbers, read_line};
 
-// Any index is taken: a list need not say its order.
-fn any_index() -> Limit {
-    Limit {
-        most: 18446744073709551615,
-        refusal: rules::REFUSED_INDEX,
-    }
+// The index and the weight of each point, which the library takes each as a slice, and where its line starts. They are large: lend them.
+#[derive(Drop)]
+pub(crate) struct Points<'a> {
+    pub layout: Layout<'a>,
+    pub indices: Numbers,
+    pub weights: Numbers,
+    pub starts: Starts,
 }
 
-// Reads the line at `at` as a point, where it has a field.
-fn read_line(
-    text: &[u8],
-    at: usize,
-    separator: u8,
-    column: usize,
-    point: usize,
-    indices: &mut [u64; 65536],
-    weights: &mut [u64; 65536],
-    starts: &mut [u32; 65536],
-    faults: &mut [usize; 61],
-) -> Row {
-    let row = row::read(text, at, separator, any_index(), 1, indices, point, faults);
-    if row.numbers == 0 {
-        return row;
+impl<'a> Points<'a> {
+    pub(crate) fn none(layout: Layout<'a>) -> Points<'a> {
+        Points {
+            layout,
+            indices: Numbers::new(),
+            weights: Numbers::new(),
+            starts: Starts::none(),
+        }
     }
-    if 65536 <= point {
-        return row;
-    }
-    starts[point] = (at % 4294967296) as u32;
-    read_weight(
-        text,
-        at,
-        separator,
-        column,
-        row.numbers,
-        point,
-        weights,
-        faults,
-    );
-    row
-}
 
-// Reads the lines of a text from `first` on, while there is room for faults; how many points they are.
-fn read_lines(
-    text: &[u8],
-    first: usize,
-    separator: u8,
-    column: usize,
-    indices: &mut [u64; 65536],
-    weights: &mut [u64; 65536],
-    starts: &mut [u32; 65536],
-    faults: &mut [usize; 61],
-) -> usize {
-    let mut at = first;
-    let mut points: usize = 0;
-    for _ in 0..text.len() {
-        if text.len() <= at {
-            return points;
+    // Reads the points behind the header, with their weights out of a column, while there is room for faults. What is wrong is kept.
+    pub(crate) fn read(&mut self, column: Option<usize>, faults: &mut Faults) {
+        let layout = self.layout;
+        for line in layout.lines() {
+            if faults.is_full() {
+                break;
+            }
+            self.read_line(line, column, faults);
         }
-        if full(faults) {
-            return points;
+        if self.indices.is_empty() {
+            faults.note_at(Wrong::Nothing, layout.source.text.len());
         }
-        let row = read_line(
-            text, at, separator, column, points, indices, weights, starts, faults,
-        );
-        if row.numbers != 0 {
-            points = std::num::wrapping_add_usize(points, 1);
-        }
-        at = row.next;
     }
-    points
-}
 
-// Reads the points of a text from `first` on; how many there are. What is wrong is kept.
-pub(crate) fn read(
-    text: &[u8],
-    first: usize,
-    separator: u8,
-    column: usize,
-    indices: &mut [u64; 65536],
-    weights: &mut [u64; 65536],
-    starts: &mut [u32; 65536],
-    faults: &mut [usize; 61],
-) -> usize {
-    let points = read_lines(
-        text, first, separator, column, indices, weights, starts, faults,
-    );
-    if points == 0 {
-        note(faults, NOTHING, text.len(), text.len());
+    // Reads a line as a point, where it has a field.
+    fn read_line(&mut self, line: Line<'a>, column: Option<usize>, faults: &mut Faults) {
+        // Any index is taken: a list need not say its order.
+        let limit = Limit::none(Refusal::Index);
+        if read_line(line, limit, Some(1), &mut self.indices, faults) == 0 {
+            return;
+        }
+        if self.starts.keep(line) {
+            read_weight(line, column, &mut self.weights, faults);
+        }
     }
-    points
 }

@@ -1,17 +1,19 @@
 -- A call whose number is 0 passed every test, and what each test says of it then holds; what a call leaves. Assumes nothing.
-use Prim.Native.Nat.{ℕ, zero, suc, ◌<◌}
+use Prim.Native.Nat.{ℕ, ◌<◌}
 use native.Mathlib.Nat.{pos_of_ne-zero}
-use mathlib.Core.Path.{◌≡◌, refl}
+use mathlib.Core.Path.{◌≡◌}
 use mathlib.Core.Bool.{◌||◌}
 use mathlib.Core.List.{List, [], ◌∷◌}
 use lib.Dec.{eqb, ltb, lit≤}
 use lib.ListN.{length, get_or}
 use borrow.Author.Tests.{eqb-false, ltb-false}
-use Rattle.rules.specs.Refusals.{top_weight, first_of, slice_by}
+use Rattle.rules.specs.Refusals.{top_weight, first_of, number_of, slice_by}
+use Rattle.rules.specs.declared.refusal.Refusal.{Refusal}
 use Rattle.requests.specs.Order.{top_points, order_of}
 use Rattle.requests.specs.Parts.{top_parts, parts_tests, parts_of, parts_along}
 use Rattle.laws.proofs.Any.{neither, none_at, length_fits}
-use Rattle.laws.proofs.Exactly.{none_passes}
+use Rattle.laws.proofs.Exactly.{none_passes, untouched}
+use Rattle.laws.proofs.Numbers.{number_above_0}
 use Rattle.parts_laws.specs.Accepted.{Accepted}
 
 module _ (n : ℕ) (ix ws parts order : List ℕ) where
@@ -24,12 +26,12 @@ module _ (n : ℕ) (ix ws parts order : List ℕ) where
   -- the lent slices have a place for each point
   pub lengths_fit : refusal ≡ 0 → (i : ℕ) → i < 3 → get_or lengths i 0 ≡ length ix
   unfolding parts_tests
-  lengths_fit e = length_fits (length ix) lengths (none_passes (parts_tests n ix ws parts order) tt e).1.1.0
+  lengths_fit e = length_fits (length ix) lengths (none_passes (parts_tests n ix ws parts order) e).1.1.0
 
   pub accepted : refusal ≡ 0 → Accepted n ix ws
   unfolding parts_tests
   accepted e =
-      let none = none_passes (parts_tests n ix ws parts order) tt e in
+      let none = none_passes (parts_tests n ix ws parts order) e in
       let counts = neither (eqb n 0) (ltb top_parts n || ltb top_points (length ix)) none.0 in
       let most = neither (ltb top_parts n) (ltb top_points (length ix)) counts.1 in
       record {
@@ -41,10 +43,9 @@ module _ (n : ℕ) (ix ws parts order : List ℕ) where
         light = λ p l. ltb-false top_weight _ (none_at (ltb top_weight) 0 ws none.1.1.1.0 p l);
       }
 
-  pub refused : (r : ℕ) → r ≡ refusal → (r ≡ 0 → ⊥) → parts_along n ix ws parts order ≡ record { number = r; parts = parts; order = order }
-  unfolding parts_along slice_by
-  refused zero e f = absurd (f refl)
-  refused (suc r) e f = rw (← e)
+  pub refused : (r : Refusal) → number_of r ≡ refusal → parts_along n ix ws parts order ≡ record { number = number_of r; parts = parts; order = order }
+  unfolding parts_along
+  refused r e = rw (← e, untouched (number_of r) _ parts (number_above_0 r), untouched (number_of r) _ order (number_above_0 r))
 
   pub answered : refusal ≡ 0 → parts_along n ix ws parts order ≡ record { number = 0; parts = parts_of n ix ws; order = order_of ix }
   unfolding parts_along slice_by

@@ -1,7 +1,8 @@
 -- No second answer fits the contract of a function that another crate calls. Assumes nothing.
 use Rattle.laws.proofs.Only.{Only, same}
-use Rattle.parts_tests.proofs.refusal.Kinds as refusal-kinds
-use Rattle.parts_tests.proofs.refusal.Reads as refusal-reads
+use Rattle.laws.proofs.Numbers.{same_answer}
+use Rattle.parts_tests.proofs.test.Kinds as test-kinds
+use Rattle.parts_tests.proofs.test.Reads as test-reads
 
-pub refusal_only : Only refusal-kinds.ps refusal-kinds.r refusal-reads.Post
-refusal_only κs a y z e f p q = same p q
+pub test_only : Only test-kinds.ps test-kinds.r test-reads.Post
+test_only κs a y z e f p q = same_answer y z (same p q)

@@ -1,4 +1,5 @@
-pub mod Points
+pub mod Cells
+pub mod Point
 pub mod Written
 pub mod Axes
 pub mod Once

@@ -6,7 +6,6 @@ use native.Mathlib.Omega.{arith}
 use lib.ListN.{length, drop, set, length-append, length-drop}
 use lib.Seq.{drop-length}
 use Rattle.rules.specs.Sums.{list}
-use Rattle.rules.specs.declared.Coded.TheVariants as coded
 use Rattle.laws.proofs.Lists.{length_list, list_more}
 
 abbrev pub written : (ℕ → ℕ) → ℕ → List ℕ → List ℕ
@@ -22,7 +21,5 @@ written_whole f i n old h k e =
     rw z (ap (λ (j : ℕ). list f n ++ drop j old) y ∙ ap (λ (l : List ℕ). list f n ++ l) (drop-length old) ∙ append-nil (list f n))
 
 -- one more element
-pub written_more : (f : ℕ → ℕ) (l old : List ℕ) (i v : ℕ) → i < length old → l ≡ written f i old → coded.Index v ≡ coded.Index (f i) → set l i v ≡ written f (i + 1) old
-written_more f l old i v h e k =
-    let z : v ≡ f i = cc in
-    rw (e, z) (list_more f old i h)
+pub written_more : (f : ℕ → ℕ) (l old : List ℕ) (i v : ℕ) → i < length old → l ≡ written f i old → v ≡ f i → set l i v ≡ written f (i + 1) old
+written_more f l old i v h e k = rw (e, k) (list_more f old i h)

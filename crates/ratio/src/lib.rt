@@ -14,11 +14,12 @@ use fives::{over_by_fives, signed, times_by_fives};
 // Up to 2^53 every whole number is an f64.
 const EXACT: u64 = 9007199254740992;
 
-// 10 to the power k, which is an f64 up to 22.
+// 10 to the power k, which is an f64 up to 22: a number and no type of such powers, since `over_tens` takes one up to 44.
 fn power_of_ten(k: u32) -> f64
     requires { k ≤ 22 }
     ensures { Tens k result }
 {
+    // A match and no table: a constant array would list the same numbers, and each of them is proved by its key all the same.
     match k {
         0 => 1.0,
         1 => 10.0,
@@ -54,10 +55,7 @@ pub fn over_tens(negative: bool, digits: u64, k: u32) -> f64
     if digits == 0 {
         return signed(negative, 0);
     }
-    if digits > EXACT {
-        return over_by_fives(negative, digits, k);
-    }
-    if k > 22 {
+    if digits > EXACT || k > 22 {
         return over_by_fives(negative, digits, k);
     }
     signed(negative, digits) / power_of_ten(k)

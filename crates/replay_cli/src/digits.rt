@@ -1,75 +1,71 @@
-// Whole numbers of up to 48 digits, one a place, the lowest first: the sides of the bounds have up to 43.
-use grid_files::shape::product;
-use printing::Buffer;
+// Whole numbers of up to 48 digits: the sides of the bounds have up to 43.
+use std::fmt;
+use std::ops::Add;
 
-// The digits of n.
-fn set(digits: &mut [u64; 48], n: u64) {
-    let mut rest = n;
-    for i in 0..48usize {
-        digits[i] = rest % 10;
-        rest /= 10;
+// Digits, the highest first, so that they compare as their numbers do.
+#[derive(Clone, Copy, Debug, PartialEq, Eq, PartialOrd, Ord)]
+pub(crate) struct Digits([u8; 48]);
+
+impl Digits {
+    // The digits of n * f * s^k.
+    pub(crate) fn product(n: u64, f: u8, s: u8, k: u32) -> Digits {
+        let mut digits = Digits::from(n).times(f);
+        for _ in 0..k {
+            digits = digits.times(s);
+        }
+        digits
+    }
+
+    fn times(mut self, s: u8) -> Digits {
+        let mut carried = 0;
+        for digit in self.0.iter_mut().rev() {
+            let (rest, over) = times(*digit, s, carried);
+            *digit = rest;
+            carried = over;
+        }
+        self
     }
 }
 
-// A number times s.
-fn times(digits: &mut [u64; 48], s: u64) {
-    let mut carried: u64 = 0;
-    for i in 0..48usize {
-        let all = product(digits[i], s) + carried % 65536;
-        digits[i] = all % 10;
-        carried = all / 10;
+// A digit times s with what is carried to it, and what it carries on.
+fn times(digit: u8, s: u8, carried: u32) -> (u8, u32) {
+    let all = u64::from(digit) * u64::from(s) + u64::from(carried);
+    ((all % 10) as u8, (all / 10) as u32)
+}
+
+impl From<u64> for Digits {
+    fn from(n: u64) -> Digits {
+        let mut digits = [0; 48];
+        let mut rest = n;
+        for digit in digits.iter_mut().rev() {
+            *digit = (rest % 10) as u8;
+            rest /= 10;
+        }
+        Digits(digits)
     }
 }
 
-// The digits of n * f * s^k, where k is at most 12.
-pub(crate) fn set_product(digits: &mut [u64; 48], n: u64, f: u64, s: u64, k: u32) {
-    set(digits, n);
-    times(digits, f);
-    for i in 0..12u32 {
-        if i < k {
-            times(digits, s);
+impl Add for Digits {
+    type Output = Digits;
+
+    fn add(mut self, other: Digits) -> Digits {
+        let mut carried = 0;
+        for (digit, more) in self.0.iter_mut().zip(&other.0).rev() {
+            let all = u16::from(*digit) + u16::from(*more) + carried % 10;
+            *digit = (all % 10) as u8;
+            carried = all / 10;
         }
+        self
     }
 }
 
-// A number with another one added.
-pub(crate) fn add(digits: &mut [u64; 48], more: &[u64; 48]) {
-    let mut carried: u64 = 0;
-    for i in 0..48usize {
-        let all = digits[i] % 10 + more[i] % 10 + carried % 10;
-        digits[i] = all % 10;
-        carried = all / 10;
+// Without noughts in front.
+impl fmt::Display for Digits {
+    fn fmt<W: fmt::Write>(&self, f: &mut fmt::Formatter<W>) -> fmt::Result {
+        let first = self.0.iter().position(|digit| *digit != 0).unwrap_or(47);
+        for digit in self.0.iter().skip(first) {
+            write!(f, "{digit}")?;
+        }
+        Ok(())
     }
-}
-
-// Whether a number is at most another.
-pub(crate) fn at_most(a: &[u64; 48], b: &[u64; 48]) -> bool {
-    for i in 0..48usize {
-        if a[47 - i] < b[47 - i] {
-            return true;
-        }
-        if b[47 - i] < a[47 - i] {
-            return false;
-        }
-    }
-    true
-}
-
-// Puts a number without noughts in front.
-pub(crate) fn put(buffer: &mut Buffer, at: usize, digits: &[u64; 48]) -> usize {
-    let mut next = at;
-    let mut begun = false;
-    for i in 0..48usize {
-        let digit = digits[47 - i];
-        if digit != 0 {
-            begun = true;
-        }
-        if i == 47 {
-            begun = true;
-        }
-        if begun {
-            next = printing::number(buffer, next, digit);
-        }
-    }
-    next
 }

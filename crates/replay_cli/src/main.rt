@@ -2,7 +2,7 @@
 // night, the answer to each event, the weights, a summary or a picture.
 //
 // The script skarvolm knows the commands and hands their words on, each in its place (`asked`). The grid is read first and its weights are
-// kept, then the trace into the same room: what `answers` prints of it still stands there. The buffer is made here once, and lent as an array.
+// kept, then the trace into the same room: what `answers` prints of it still stands there.
 #![tactic(auto)]
 
 mod answers;
@@ -11,64 +11,42 @@ mod digits;
 mod events;
 mod night;
 mod summary;
-mod trace;
 
+use console::faults::Faults;
 use console::files;
-use console::files::Size;
+use console::source::Source;
+use events::Events;
 use grid_files::file;
-use grid_files::file::Outcome;
-use grid_files::shape::Shape;
+use knot_files::layout::Layout;
+use messages::Outcome;
+use night::Trace;
 use std::rt::HostRuntime;
-use words::status::FAILED;
+use whole_files::numbers::Numbers;
+use words::Words;
+use words::status::report;
 
-// Reads the weights of the grid, or says why not.
-fn read_grid(
-    rt: HostRuntime,
-    line: &[u8],
-    bytes: &mut [u8; 4194304],
-    weights: &mut [u64; 65536],
-) -> Outcome {
-    let path = asked::grid(line);
-    let read = files::read(rt, path, bytes);
-    let Size::Bytes(size) = read else {
-        return Outcome::Unread;
+// Reads a grid and a trace, whose header is one as in a file of knots, replays the trace and shows the night, or says what is wrong.
+fn carry_out(rt: HostRuntime, words: &Words, room: &mut [u8; files::ROOM]) -> Outcome {
+    let mut weights = Numbers::new();
+    let shape = file::read(rt, asked::grid(words), room, &mut weights)?;
+    let path = asked::trace(words);
+    let text = files::read(rt, path, room)?;
+    let source = Source::of(path, text);
+    let layout = Layout::of_numbers(source, source.first_line(0), None);
+    let mut events = Events::none();
+    let mut faults = Faults::none();
+    events.read(layout, shape, &mut faults);
+    faults.say_all(source)?;
+    let trace = Trace {
+        layout,
+        events: &events,
     };
-    file::read(path, files::text(bytes, size), weights)
-}
-
-// Replays the trace on the grid.
-fn replay_on(
-    rt: HostRuntime,
-    line: &[u8],
-    bytes: &mut [u8; 4194304],
-    shape: Shape,
-    weights: &mut [u64; 65536],
-) -> u8 {
-    let read = files::read(rt, asked::trace(line), bytes);
-    let Size::Bytes(size) = read else {
-        return FAILED;
-    };
-    trace::of_text(rt, line, files::text(bytes, size), shape, weights)
-}
-
-// Carries out a command on two files.
-fn carry_out(rt: HostRuntime, line: &[u8], bytes: &mut [u8; 4194304]) -> u8 {
-    let mut weights = [0u64; 65536];
-    let read = read_grid(rt, line, bytes, &mut weights);
-    let Outcome::Grid(shape) = read else {
-        return FAILED;
-    };
-    replay_on(rt, line, bytes, shape, &mut weights)
-}
-
-fn carry_out_in(rt: HostRuntime, line: &[u8; 4096], bytes: &mut [u8; 4194304]) {
-    let status = carry_out(rt, line, bytes);
-    words::status::report(line, status);
+    night::carry_out(rt, words, shape, weights.as_mut_slice(), trace)
 }
 
 fn main(rt: HostRuntime) {
-    let mut line = [0u8; 4096];
-    words::arguments(rt, &mut line);
-    let mut bytes = [0u8; 4194304];
-    carry_out_in(rt, &line, &mut bytes);
+    let words = Words::of_program(rt);
+    let mut room = [0u8; files::ROOM];
+    let outcome = carry_out(rt, &words, &mut room);
+    report(&words, outcome);
 }

@@ -1,218 +1,93 @@
 // The replay of a night, and what is shown of it.
+use crate::events::Events;
 use crate::{answers, asked, summary};
-use grid_files::file::say_refused;
+use console::starts::MOST;
+use grid_files::halved::{Halved, Wish};
 use grid_files::listing;
-use grid_files::shape::{Shape, nodes_of, side};
-use grid_pictures::draw;
+use grid_files::shape::Shape;
+use grid_pictures::{Files, draw};
 use knot_files::layout::Layout;
-use rules::{EDITION_2, Halving2, Halving3};
+use messages::Outcome;
+use rules::Refusal;
 use std::rt::HostRuntime;
-use words::status::FAILED;
+use words::Words;
 
-// What a command asks of the halvings.
+// The trace of a night: its events, and how its file is laid out.
 #[derive(Clone, Copy)]
-pub struct Wish {
-    pub first: u32,
-    pub depth: u32,
+pub(crate) struct Trace<'a> {
+    pub(crate) layout: Layout<'a>,
+    pub(crate) events: &'a Events,
 }
 
-// Replays a night on a grid of one layer; the number of refusal.
-fn replay_2d(
+// Replays a night in 2D where the grid has one layer and else in 3D. What is lent is what the library is lent.
+fn replay(
     shape: Shape,
     wish: Wish,
     weights: &mut [u64],
-    cells: &[u64],
-    amounts: &[u64],
+    events: &Events,
     answers: &mut [u32],
     splits: &mut [u32],
     ids: &mut [u32],
-) -> u32 {
-    let halving = Halving2 {
-        edition: EDITION_2,
-        width: side(shape.width),
-        height: side(shape.height),
-        first: wish.first,
-        depth: wish.depth,
-    };
-    replay::replay_2d(halving, weights, cells, amounts, answers, splits, ids)
-}
-
-// Replays a night on a grid of several layers; the number of refusal.
-fn replay_3d(
-    shape: Shape,
-    wish: Wish,
-    weights: &mut [u64],
-    cells: &[u64],
-    amounts: &[u64],
-    answers: &mut [u32],
-    splits: &mut [u32],
-    ids: &mut [u32],
-) -> u32 {
-    let halving = Halving3 {
-        edition: EDITION_2,
-        width: side(shape.width),
-        height: side(shape.height),
-        layers: side(shape.layers),
-        first: wish.first,
-        depth: wish.depth,
-    };
+) -> Result<(), Refusal> {
+    let cells = events.cells.as_slice();
+    let amounts = events.amounts.as_slice();
+    if shape.is_flat() {
+        let halving = wish.halving_2d(shape);
+        return replay::replay_2d(halving, weights, cells, amounts, answers, splits, ids);
+    }
+    let halving = wish.halving_3d(shape);
     replay::replay_3d(halving, weights, cells, amounts, answers, splits, ids)
 }
 
-// Replays a night in 2D where the grid has one layer and else in 3D; the number of refusal.
-fn replay_any(
+// Replays the events of a trace on a grid and shows the night, or says why it is refused.
+pub(crate) fn carry_out(
+    rt: HostRuntime,
+    words: &Words,
     shape: Shape,
-    wish: Wish,
     weights: &mut [u64],
-    cells: &[u64],
-    amounts: &[u64],
-    answers: &mut [u32],
-    splits: &mut [u32],
-    ids: &mut [u32],
-) -> u32 {
-    if shape.layers == 1 {
-        return replay_2d(shape, wish, weights, cells, amounts, answers, splits, ids);
+    trace: Trace<'_>,
+) -> Outcome {
+    let wish = asked::wish(words);
+    let events = trace.events;
+    let mut answers = [0u32; MOST];
+    let answers = &mut answers[..events.starts.len()];
+    let mut splits = [0u32; 4095];
+    let splits = &mut splits[..wish.nodes()];
+    let mut ids = [0u32; MOST];
+    let ids = &mut ids[..shape.cells()];
+    if let Err(refusal) = replay(shape, wish, weights, events, answers, splits, ids) {
+        return Err(shape.refused(asked::grid(words), refusal));
     }
-    replay_3d(shape, wish, weights, cells, amounts, answers, splits, ids)
-}
-
-// Replays the first n events with the first places of the rooms for weights, splits and ids; the number of refusal.
-fn replay_events(
-    shape: Shape,
-    wish: Wish,
-    n: usize,
-    weights: &mut [u64],
-    cells: &[u64],
-    amounts: &[u64],
-    answers: &mut [u32],
-    splits: &mut [u32],
-    ids: &mut [u32],
-) -> u32 {
-    if cells.len() < n {
-        return rules::REFUSED_LENGTHS;
-    }
-    if amounts.len() < n {
-        return rules::REFUSED_LENGTHS;
-    }
-    if answers.len() < n {
-        return rules::REFUSED_LENGTHS;
-    }
-    replay_any(
+    let halved = Halved {
         shape,
         wish,
         weights,
-        &cells[..n],
-        &amounts[..n],
-        &mut answers[..n],
-        splits,
         ids,
-    )
+    };
+    let shown = show(rt, words, halved, trace, answers);
+    answers::say_refused(asked::trace(words), answers);
+    shown
 }
 
-// Replays n events with the first of the rooms' places, as many as there are events, cells and nodes; the number of refusal.
-fn replay_in(
-    shape: Shape,
-    wish: Wish,
-    n: usize,
-    weights: &mut [u64],
-    cells: &[u64],
-    amounts: &[u64],
-    answers: &mut [u32],
-    splits: &mut [u32],
-    ids: &mut [u32],
-) -> u32 {
-    let count = shape.cells;
-    let nodes = nodes_of(wish.depth);
-    if weights.len() < count {
-        return rules::REFUSED_LENGTHS;
-    }
-    if splits.len() < nodes {
-        return rules::REFUSED_LENGTHS;
-    }
-    if ids.len() < count {
-        return rules::REFUSED_LENGTHS;
-    }
-    replay_events(
-        shape,
-        wish,
-        n,
-        &mut weights[..count],
-        cells,
-        amounts,
-        answers,
-        &mut splits[..nodes],
-        &mut ids[..count],
-    )
-}
-
-// Shows what is asked for of a night.
+// Shows what is asked for of the grid after a night and of the answers.
 fn show(
     rt: HostRuntime,
-    line: &[u8],
-    text: &[u8],
-    layout: Layout,
-    shape: Shape,
-    n: usize,
-    weights: &[u64; 65536],
-    starts: &[u32; 65536],
-    answers: &[u32; 65536],
-    ids: &[u32; 65536],
-) -> u8 {
-    match asked::shown(line) {
-        0 => answers::print(rt, text, layout, n, starts, answers),
-        1 => listing::print(rt, shape, true, weights, ids),
-        2 => summary::print(rt, shape, asked::depth(line), n, weights, answers, ids),
-        3 => draw(
-            rt,
-            asked::grid(line),
-            asked::trace(line),
-            shape,
-            asked::depth(line),
-            weights,
-            ids,
-        ),
-        _ => listing::print(rt, shape, false, weights, ids),
+    words: &Words,
+    halved: Halved<'_>,
+    trace: Trace<'_>,
+    answers: &[u32],
+) -> Outcome {
+    match asked::shown(words) {
+        b"answers" => answers::print(rt, trace, answers),
+        b"weights" => listing::print(rt, halved.shape, halved.weights),
+        b"summary" => summary::print(rt, halved, answers),
+        b"picture" => {
+            let files = Files {
+                grid: asked::grid(words),
+                trace: Some(asked::trace(words)),
+            };
+            draw(rt, files, halved)
+        }
+        _ => listing::print(rt, halved.shape, halved.ids),
     }
-}
-
-// Replays n events and shows the night, or says why it is refused.
-pub(crate) fn of_events(
-    rt: HostRuntime,
-    line: &[u8],
-    text: &[u8],
-    layout: Layout,
-    shape: Shape,
-    n: usize,
-    weights: &mut [u64; 65536],
-    cells: &[u64; 65536],
-    amounts: &[u64; 65536],
-    starts: &[u32; 65536],
-) -> u8 {
-    let mut answers = [0u32; 65536];
-    let mut splits = [0u32; 4095];
-    let mut ids = [0u32; 65536];
-    let wish = Wish {
-        first: asked::first(line),
-        depth: asked::depth(line),
-    };
-    let number = replay_in(
-        shape,
-        wish,
-        n,
-        weights,
-        cells,
-        amounts,
-        &mut answers,
-        &mut splits,
-        &mut ids,
-    );
-    if number != rules::ANSWERED {
-        say_refused(asked::grid(line), shape, number);
-        return FAILED;
-    }
-    let status = show(
-        rt, line, text, layout, shape, n, weights, starts, &answers, &ids,
-    );
-    answers::say_refused(asked::trace(line), n, &answers);
-    status
 }

@@ -34,7 +34,7 @@ module _ (ws : List ℕ) (cell amount : ℕ) where
   pub told : answer_to ws cell amount ≡ 0 → Takes ws cell amount
   unfolding event_tests
   told e =
-      let none = none_passes (event_tests ws cell amount) tt e in
+      let none = none_passes (event_tests ws cell amount) e in
       record { inside = leb-false _ _ none.0; light = ltb-false _ _ none.1.0 }
 
   pub added_is : answer_to ws cell amount ≡ 0 → added ws cell amount ≡ heavier ws cell amount

@@ -3,6 +3,7 @@
 use Rattle.std.specs.Prelude.{ℕ, zero, suc, ◌+◌, ◌-◌, ◌*◌, ◌≤◌, ◌<◌, min, ◌≡◌, Bool, ◌||◌, List, [], ◌∷◌, length, leb, ltb, eqb}
 use Rattle.rules.specs.Sums.{pick, total, sum_where, top, list}
 use Rattle.rules.specs.Refusals.{Test, test, first_of, no_points, lengths_off, weight_over, slice_by}
+use Rattle.rules.specs.declared.refusal.Refusal.TheVariants.{NoPoints, Lengths, Weight, Counts}
 use Rattle.rules.specs.Demands.{Exactly}
 use Rattle.requests.specs.Order.{top_points, at, order_of, OrderList}
 
@@ -63,10 +64,10 @@ counts_unfit n points = eqb n 0 || (ltb top_parts n || ltb top_points points)
 -- of the part count, indices and weights, and what the slices of parts and of the order hold
 unfoldable pub parts_tests : ℕ → List ℕ → List ℕ → List ℕ → List ℕ → List Test
 parts_tests n ix ws parts order =
-    test (counts_unfit n (length ix)) 12
-    ∷ test (no_points (length ix)) 4
-    ∷ test (lengths_off (length ix) (length ws ∷ length parts ∷ length order ∷ [])) 5
-    ∷ test (weight_over ws) 11 ∷ []
+    test (counts_unfit n (length ix)) Counts
+    ∷ test (no_points (length ix)) NoPoints
+    ∷ test (lengths_off (length ix) (length ws ∷ length parts ∷ length order ∷ [])) Lengths
+    ∷ test (weight_over ws) Weight ∷ []
 
 -- a call's number, and what it leaves in the lent slices
 pub record Parted : Type 0 where

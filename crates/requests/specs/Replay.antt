@@ -4,6 +4,7 @@ use Rattle.std.specs.Prelude.{ℕ, zero, suc, ◌+◌, ◌*◌, ◌^◌, ◌<◌
 use Rattle.rules.specs.Sums.{pick, any, sum_where, list}
 use Rattle.rules.specs.Grid.{all_weight, heaviest_line}
 use Rattle.rules.specs.Refusals.{top_weight, Test, test, first_of, first_unknown, sides_unfit, depth_over, lengths_off, grid_lengths_off, weight_over, slice_by}
+use Rattle.rules.specs.declared.refusal.Refusal.TheVariants.{Lengths, Sides, Depth, Weight, Edition, First, Cell}
 use Rattle.rules.specs.Halving.{Halving, splits_by, ids_by}
 use Rattle.rules.specs.Demands.{Exactly, part_weight, Demand3}
 use Rattle.requests.specs.Order.{at, numbers}
@@ -21,7 +22,7 @@ night ws cs ms = record { start = ws; cells = cs; amounts = ms }
 
 -- an event's answer, by the weights of that moment: 20 outside the grid, 11 a cell that would be too heavy, else 0
 unfoldable pub event_tests : List ℕ → ℕ → ℕ → List Test
-event_tests ws cell amount = test (leb (length ws) cell) 20 ∷ test (ltb top_weight (at ws cell + amount)) 11 ∷ []
+event_tests ws cell amount = test (leb (length ws) cell) Cell ∷ test (ltb top_weight (at ws cell + amount)) Weight ∷ []
 
 abbrev pub answer_to : List ℕ → ℕ → ℕ → ℕ
 answer_to ws cell amount = first_of (event_tests ws cell amount)
@@ -88,12 +89,12 @@ replay_lengths_off sides k weights ids splits events amounts answers =
 -- of a halving, the weights, cells and amounts, and what the slices of answers, splits and ids hold
 unfoldable pub replay_tests : Halving → List ℕ → List ℕ → List ℕ → List ℕ → List ℕ → List ℕ → List Test
 replay_tests h ws cs ms answers splits ids =
-    test (not_edition2 h.edition) 13
-    ∷ test (first_unknown (length h.sides) h.first) 14
-    ∷ test (sides_unfit h.sides) 9
-    ∷ test (depth_over h.depth) 10
-    ∷ test (replay_lengths_off h.sides h.depth (length ws) (length ids) (length splits) (length cs) (length ms) (length answers)) 5
-    ∷ test (weight_over ws) 11 ∷ []
+    test (not_edition2 h.edition) Edition
+    ∷ test (first_unknown (length h.sides) h.first) First
+    ∷ test (sides_unfit h.sides) Sides
+    ∷ test (depth_over h.depth) Depth
+    ∷ test (replay_lengths_off h.sides h.depth (length ws) (length ids) (length splits) (length cs) (length ms) (length answers)) Lengths
+    ∷ test (weight_over ws) Weight ∷ []
 
 -- a call's number, and what it leaves in the lent slices
 pub record Replayed : Type 0 where

@@ -1,5 +1,5 @@
 -- How far rounding may move a cell (02, 14/14). Assumes nothing.
-use Rattle.std.specs.Prelude.{ℕ, ◌+◌, ◌*◌, ◌^◌, ◌≤◌, ◌<◌, ◌≡◌, false, List, pos, ◌+ℤ◌, get_or, length, Float}
+use Rattle.std.specs.Prelude.{ℕ, ◌+◌, ◌*◌, ◌^◌, ◌≤◌, ◌<◌, ◌≡◌, false, List, pos, ◌+ℤ◌, get_or, length, Float, [], ◌∷◌, Ok}
 use Rattle.rules.specs.Sums.{any}
 use Rattle.rules.specs.Refusals.{top2, nought, value_unfit}
 use Rattle.rules.specs.Curve.{decode2, decode3}
@@ -8,10 +8,6 @@ use Rattle.rules.specs.Knots.{thin_over, axis_over, knot, index_all2, index_all3
 use Rattle.rules.specs.declared.Axis.{Axis}
 use Rattle.rules.specs.declared.Axis.TheVariants.{Flat, Sloped}
 use Rattle.rules.specs.declared.Extent.{Extent}
-use Rattle.rules.specs.declared.AxisAnswer.TheVariants.{Made}
-use Rattle.rules.specs.declared.CellAnswer.TheVariants.{Cell}
-use Rattle.rules.specs.declared.Cell2.TheVariants as flat
-use Rattle.rules.specs.declared.Cell3.TheVariants as solid
 use Rattle.requests.specs.Scaled.{IsF64, scaled}
 
 -- THE EXACT PLACE of a value: how far it and high lie above low, in steps of 2^-1074. These are whole numbers, and nothing is rounded
@@ -58,13 +54,13 @@ AllF64 xs = (j : ℕ) → j < length xs → IsF64 (get_or xs j nought)
 abbrev pub CellAtMostOneOff : Type 0
 CellAtMostOneOff =
     (low high factor value : Float) (order c : ℕ) → IsF64 low → IsF64 high → IsF64 value
-    → make_axis low high order ≡ Made (Sloped low high order factor)
-    → cell_of (Sloped low high order factor) value ≡ Cell c
+    → make_axis low high order ≡ Ok (Sloped low high order factor)
+    → cell_of (Sloped low high order factor) value ≡ Ok c
     → NearCell low high value order c
 
 -- of every axis record, whoever wrote it: one that is made up has no cell
 abbrev pub RecordAtMostOneOff : Type 0
-RecordAtMostOneOff = (a : Axis) (value : Float) (c : ℕ) → AxisIsF64 a → IsF64 value → cell_of a value ≡ Cell c → NearOn a value c
+RecordAtMostOneOff = (a : Axis) (value : Float) (c : ℕ) → AxisIsF64 a → IsF64 value → cell_of a value ≡ Ok c → NearOn a value c
 
 -- of every point's cell on the axis from the lowest to the highest of the points
 abbrev pub KnotAtMostOneOff : Type 0
@@ -76,12 +72,12 @@ KnotAtMostOneOff =
 abbrev pub NearPoints2 : List Float → List Float → Axis → Axis → ℕ → List ℕ → Type 0
 NearPoints2 xs ys xaxis yaxis order indices =
     (i : ℕ) → i < length xs
-    → (x : ℕ) × (y : ℕ) × (decode2 (get_or indices i 0) order ≡ flat.At x y) × NearOn xaxis (get_or xs i nought) x × NearOn yaxis (get_or ys i nought) y
+    → (x : ℕ) × (y : ℕ) × (decode2 (get_or indices i 0) order ≡ Ok (x ∷ y ∷ [])) × NearOn xaxis (get_or xs i nought) x × NearOn yaxis (get_or ys i nought) y
 
 abbrev pub NearPoints3 : List Float → List Float → List Float → Axis → Axis → Axis → ℕ → List ℕ → Type 0
 NearPoints3 xs ys zs xaxis yaxis zaxis order indices =
     (i : ℕ) → i < length xs
-    → (x : ℕ) × (y : ℕ) × (z : ℕ) × (decode3 (get_or indices i 0) order ≡ solid.At x y z)
+    → (x : ℕ) × (y : ℕ) × (z : ℕ) × (decode3 (get_or indices i 0) order ≡ Ok (x ∷ y ∷ z ∷ []))
     × NearOn xaxis (get_or xs i nought) x × NearOn yaxis (get_or ys i nought) y × NearOn zaxis (get_or zs i nought) z
 
 -- where all points are indexed these are the axes over the points

@@ -1,5 +1,5 @@
-// What document 02 adds to the rules of document 01, as definitions: the limits and numbers of refusal stand here, and what
-// each request means stands in specs/:
+// What document 02 adds to the rules of document 01, as definitions: the limits stand here, and what each request means stands in
+// specs/:
 //
 //   Order      points in the order of their indices
 //   Parts      parts along the curve (1/14)
@@ -15,9 +15,3 @@ pub const TOP_POINTS: u32 = 65536;
 
 // The most parts.
 pub const TOP_PARTS: u32 = 1024;
-
-// The number of refusal of no part or too many, or of too many points.
-pub const REFUSED_COUNTS: u32 = 12;
-
-// The number of refusal of an event whose cell is not in the grid.
-pub const REFUSED_CELL: u32 = 20;

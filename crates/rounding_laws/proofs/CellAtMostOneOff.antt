@@ -12,7 +12,7 @@ use Rattle.rules.specs.Refusals.{first_of, nought, width, value_unfit, axis_test
 use Rattle.rules.specs.Axis.{cell_count, next_down, descend, factor_of, axis_of, low_of, high_of, made_up, cell_on, cell_of}
 use Rattle.rules.specs.declared.Axis.{Axis}
 use Rattle.rules.specs.declared.Axis.TheVariants.{Flat, Sloped}
-use Rattle.rules.specs.declared.CellAnswer.TheVariants as found
+use Rattle.std.specs.Prelude.{Ok}
 use Rattle.requests.specs.Scaled.{IsF64}
 use Rattle.requests.specs.Rounding.{NearCell, NearOn, AxisIsF64, CellAtMostOneOff, RecordAtMostOneOff}
 use Rattle.axis_laws.proofs.AtMost.{nlt→le}
@@ -80,7 +80,7 @@ made_is_f64 low high order l h made = go (eq (width low high) nought) (in_format
     go false f = (l, h, fits_f64 (factor_of low high order) f)
 
 pub made_at_most_one_off : (low high value : Float) (order c : ℕ) → IsF64 low → IsF64 high → IsF64 value → first_of (axis_tests low high order) ≡ 0
-    → cell_of (axis_of low high order) value ≡ found.Cell c → NearOn (axis_of low high order) value c
+    → cell_of (axis_of low high order) value ≡ Ok c → NearOn (axis_of low high order) value c
 made_at_most_one_off low high value order c low64 high64 value64 made = record_at_most_one_off (axis_of low high order) value c (made_is_f64 low high order low64 high64 made) value64
 
 pub cell_at_most_one_off : CellAtMostOneOff

@@ -74,7 +74,7 @@ pub on_at_most_one_off_2d : (xs ys : List Float) (xaxis yaxis : Axis) (order : �
     → (index_on2 xs ys xaxis yaxis order before).number ≡ 0 → NearPoints2 xs ys xaxis yaxis order (index_on2 xs ys xaxis yaxis order before).indices
 unfolding index_on2 on_tests asked_of questions slice_by
 on_at_most_one_off_2d xs ys xaxis yaxis order before x64 y64 xaxis64 yaxis64 answered i h =
-    let none = none_passes (on2_tests xs ys xaxis yaxis order before) tt answered in
+    let none = none_passes (on2_tests xs ys xaxis yaxis order before) answered in
     let asked = none.1.1.1.1.1.1 in
     let few : order ≤ top2 = ltb-false top2 order none.0 in
     let at-axis = on_each order i (length xs) h (on xs xaxis ∷ on ys yaxis ∷ []) asked.0 asked.1.0 asked.1.1.0 (on xs xaxis) in
@@ -93,7 +93,7 @@ pub on_at_most_one_off_3d : (xs ys zs : List Float) (xaxis yaxis zaxis : Axis) (
     → (index_on3 xs ys zs xaxis yaxis zaxis order before).number ≡ 0 → NearPoints3 xs ys zs xaxis yaxis zaxis order (index_on3 xs ys zs xaxis yaxis zaxis order before).indices
 unfolding index_on3 on_tests asked_of questions slice_by
 on_at_most_one_off_3d xs ys zs xaxis yaxis zaxis order before x64 y64 z64 xaxis64 yaxis64 zaxis64 answered i h =
-    let none = none_passes (on3_tests xs ys zs xaxis yaxis zaxis order before) tt answered in
+    let none = none_passes (on3_tests xs ys zs xaxis yaxis zaxis order before) answered in
     let asked = none.1.1.1.1.1.1 in
     let few : order ≤ top3 = ltb-false top3 order none.0 in
     let at-axis = on_each order i (length xs) h (on xs xaxis ∷ on ys yaxis ∷ on zs zaxis ∷ []) asked.0 asked.1.0 asked.1.1.0 (on xs xaxis) in
@@ -133,7 +133,7 @@ pub in_at_most_one_off_2d : (xs ys : List Float) (x y : Extent) (order : ℕ) (b
     → (index_in2 xs ys x y order before).number ≡ 0 → NearPoints2 xs ys (axis_in x order) (axis_in y order) order (index_in2 xs ys x y order before).indices
 unfolding index_on2 on_tests asked_of questions
 in_at_most_one_off_2d xs ys x y order before xs64 ys64 x64 y64 answered =
-    let none = none_passes (in2_tests xs ys x y order before) tt answered in
+    let none = none_passes (in2_tests xs ys x y order before) answered in
     let asked = none.1.1.1 in
     let axes = on xs (axis_in x order) ∷ on ys (axis_in y order) ∷ [] in
     let f64 = in_each order (ltb-false top2 order none.0) axes asked.0 asked.1.0 asked.1.1.0 (on xs (axis_in x order)) in
@@ -144,7 +144,7 @@ pub in_at_most_one_off_3d : (xs ys zs : List Float) (x y z : Extent) (order : �
     → (index_in3 xs ys zs x y z order before).number ≡ 0 → NearPoints3 xs ys zs (axis_in x order) (axis_in y order) (axis_in z order) order (index_in3 xs ys zs x y z order before).indices
 unfolding index_on3 on_tests asked_of questions
 in_at_most_one_off_3d xs ys zs x y z order before xs64 ys64 zs64 x64 y64 z64 answered =
-    let none = none_passes (in3_tests xs ys zs x y z order before) tt answered in
+    let none = none_passes (in3_tests xs ys zs x y z order before) answered in
     let asked = none.1.1.1 in
     let few : order ≤ top2 = le_trans (ltb-false top3 order none.0) (lit≤ tt) in
     let axes = on xs (axis_in x order) ∷ on ys (axis_in y order) ∷ on zs (axis_in z order) ∷ [] in
@@ -166,7 +166,7 @@ module _ (order n : ℕ) (few : order ≤ top2) (some : 0 < n) (axes : List (Lis
 pub index_at_most_one_off_2d : IndexAtMostOneOff2
 unfolding index_all2 index_tests
 index_at_most_one_off_2d xs ys order before x64 y64 answered =
-    let none = none_passes (index2_tests xs ys order before) tt answered in
+    let none = none_passes (index2_tests xs ys order before) answered in
     let few : order ≤ top2 = ltb-false top2 order none.0 in
     let fit = none.1.1.1.0 in
     let over = over_each order (length xs) few (pos_of_ne-zero (eqb-false (length xs) 0 none.1.0)) (xs ∷ ys ∷ []) fit none.1.1.1.1.0 in
@@ -178,7 +178,7 @@ index_at_most_one_off_2d xs ys order before x64 y64 answered =
 pub index_at_most_one_off_3d : IndexAtMostOneOff3
 unfolding index_all3 index_tests
 index_at_most_one_off_3d xs ys zs order before x64 y64 z64 answered =
-    let none = none_passes (index3_tests xs ys zs order before) tt answered in
+    let none = none_passes (index3_tests xs ys zs order before) answered in
     let few : order ≤ top2 = le_trans (ltb-false top3 order none.0) (lit≤ tt) in
     let fit = none.1.1.1.0 in
     let over = over_each order (length xs) few (pos_of_ne-zero (eqb-false (length xs) 0 none.1.0)) (xs ∷ ys ∷ zs ∷ []) fit none.1.1.1.1.0 in

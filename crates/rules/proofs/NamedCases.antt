@@ -7,7 +7,7 @@ use lib.ListN.{length, replicate}
 use lib.Dec.{T, eqb}
 use Rattle.rules.specs.Sums.{pick, any, total, top, list}
 use Rattle.rules.specs.Grid.{cells, coords, whole, inside, edge, side, before, after, weight, line}
-use Rattle.rules.specs.Refusals.{read_coded, read_cell2, read_cell3, encode_tests, decode_tests, grid_tests, coded_by, cell2_by, cell3_by, slice_by}
+use Rattle.rules.specs.Refusals.{read_coded, read_cell2, read_cell3, encode_tests, decode_tests, grid_tests, slice_by}
 use Rattle.rules.specs.Curve.{encode, decode, seek_digit, undo, digit_table, next_table, plane, octant_table, space, index_of, coordinate_of, encode2, encode3, decode2, decode3}
 use Rattle.rules.specs.Halving.{Halved, lo_of, hi_of, whole_up, lo_up_of, edition_of, reach, settle, cut_of, cut_at, uncut, next_axis, unless_flat, fill, splits_of, turn, walk, id_of, ids_of, Halving, halving2, halving3, halve}
 
@@ -82,5 +82,5 @@ named =
     ∷ []
 
 pub named_cases : T (all named)
-unfolding pick any total top list cells coords whole inside edge side before after weight line encode_tests decode_tests grid_tests coded_by cell2_by cell3_by slice_by encode decode seek_digit undo digit_table next_table plane octant_table space index_of coordinate_of encode2 encode3 decode2 decode3 lo_of hi_of whole_up lo_up_of edition_of reach settle cut_of cut_at next_axis unless_flat fill splits_of turn walk id_of ids_of halve
+unfolding pick any total top list cells coords whole inside edge side before after weight line encode_tests decode_tests grid_tests slice_by encode decode seek_digit undo digit_table next_table plane octant_table space index_of coordinate_of encode2 encode3 decode2 decode3 lo_of hi_of whole_up lo_up_of edition_of reach settle cut_of cut_at next_axis unless_flat fill splits_of turn walk id_of ids_of halve
 named_cases = tt

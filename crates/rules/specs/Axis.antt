@@ -1,13 +1,11 @@
 -- From a value to a cell, in f64, each operation rounded once. Assumes nothing.
-use Rattle.std.specs.Prelude.{ℕ, zero, suc, ◌-◌, ◌^◌, Bool, true, false, not, ◌&&◌, cond, List, [], ◌∷◌, pos, eqb, Float}
+use Rattle.std.specs.Prelude.{ℕ, zero, suc, ◌-◌, ◌^◌, Bool, true, false, not, ◌&&◌, cond, List, [], ◌∷◌, pos, eqb, Float, Result, Ok, Err}
 use Rattle.std.specs.Float.{binary64}
 use Rattle.std.specs.Float.Ieee.{sub, mul, div, lt, le, eq, of_int, to_bits, of_bits, is_nan, to_unsigned}
-use Rattle.rules.specs.Refusals.{first_of, nought, width, axis_tests, cell_tests, axis_by, cell_by}
+use Rattle.rules.specs.Refusals.{nought, width, axis_tests, cell_tests, answer_by}
+use Rattle.rules.specs.declared.refusal.Refusal.{Refusal}
 use Rattle.rules.specs.declared.Axis.{Axis}
 use Rattle.rules.specs.declared.Axis.TheVariants.{Flat, Sloped}
-use Rattle.rules.specs.declared.AxisAnswer.{AxisAnswer}
-use Rattle.rules.specs.declared.AxisAnswer.TheVariants as made
-use Rattle.rules.specs.declared.CellAnswer.{CellAnswer}
 use Rattle.rules.specs.declared.Extent.{Extent}
 
 -- MAKING AN AXIS
@@ -41,9 +39,9 @@ unfoldable pub axis_of : Float → Float → ℕ → Axis
 unfolding factor_of
 axis_of low high order = cond (eq (width low high) nought) (Flat low high order) (Sloped low high order (factor_of low high order))
 
-unfoldable pub make_axis : Float → Float → ℕ → AxisAnswer
+unfoldable pub make_axis : Float → Float → ℕ → Result Axis Refusal
 unfolding axis_of
-make_axis low high order = axis_by (first_of (axis_tests low high order)) (axis_of low high order)
+make_axis low high order = answer_by (axis_tests low high order) (axis_of low high order)
 
 -- THE CELL OF A VALUE
 
@@ -64,13 +62,13 @@ unfoldable pub same_bits : Float → Float → Bool
 same_bits f g = not (is_nan f) && eqb (to_bits binary64 f) (to_bits binary64 g)
 
 -- whether an answer is this very axis, of which it copied low, high and order: the case and the factor tell
-unfoldable pub is_anew : AxisAnswer → Axis → Bool
+unfoldable pub is_anew : Result Axis Refusal → Axis → Bool
 unfolding same_bits
-is_anew (made.Made (Flat l h o)) (Flat low high order) = true
-is_anew (made.Made (Flat l h o)) (Sloped low high order factor) = false
-is_anew (made.Made (Sloped l h o f)) (Flat low high order) = false
-is_anew (made.Made (Sloped l h o f)) (Sloped low high order factor) = same_bits factor f
-is_anew (made.Refused n) a = false
+is_anew (Ok (Flat l h o)) (Flat low high order) = true
+is_anew (Ok (Flat l h o)) (Sloped low high order factor) = false
+is_anew (Ok (Sloped l h o f)) (Flat low high order) = false
+is_anew (Ok (Sloped l h o f)) (Sloped low high order factor) = same_bits factor f
+is_anew (Err r) a = false
 
 -- an axis record that making it anew does not give
 unfoldable pub made_up : Axis → Bool
@@ -82,9 +80,9 @@ unfoldable pub cell_on : Axis → Float → ℕ
 cell_on (Flat low high order) value = 0
 cell_on (Sloped low high order factor) value = to_unsigned 64 (mul binary64 factor (sub binary64 value low))
 
-unfoldable pub cell_of : Axis → Float → CellAnswer
+unfoldable pub cell_of : Axis → Float → Result ℕ Refusal
 unfolding made_up cell_on
-cell_of a value = cell_by (first_of (cell_tests (made_up a) (low_of a) (high_of a) value)) (cell_on a value)
+cell_of a value = answer_by (cell_tests (made_up a) (low_of a) (high_of a) value) (cell_on a value)
 
 -- LOW AND HIGH OF POINTS
 

@@ -1,10 +1,8 @@
 -- The 2D curve and the 3D curve. Assumes nothing.
-use Rattle.std.specs.Prelude.{ℕ, zero, suc, ◌+◌, ◌*◌, ◌/◌, ◌%◌, ◌^◌, List, [], ◌∷◌, get_or, eqb}
+use Rattle.std.specs.Prelude.{ℕ, zero, suc, ◌+◌, ◌*◌, ◌/◌, ◌%◌, ◌^◌, List, [], ◌∷◌, get_or, eqb, Result}
 use Rattle.rules.specs.Sums.{pick}
-use Rattle.rules.specs.Refusals.{first_of, top2, top3, encode_tests, decode_tests, coded_by, cell2_by, cell3_by}
-use Rattle.rules.specs.declared.Coded.{Coded}
-use Rattle.rules.specs.declared.Cell2.{Cell2}
-use Rattle.rules.specs.declared.Cell3.{Cell3}
+use Rattle.rules.specs.Refusals.{top2, top3, encode_tests, decode_tests, answer_by}
+use Rattle.rules.specs.declared.refusal.Refusal.{Refusal}
 
 -- THE LEVEL MACHINE, in d dimensions: of a state and one of 2^d quadrants, the digit and the next state
 
@@ -117,18 +115,20 @@ index_of {d} M order c = encode M order 0 (λ k. quadrant d k c)
 unfoldable pub coordinate_of : {d : ℕ} → Machine d → ℕ → ℕ → ℕ → ℕ
 coordinate_of {d} M order index e = decode M e order 0 (λ k. level d k index)
 
-unfoldable pub encode2 : ℕ → ℕ → ℕ → Coded
-encode2 x y order = coded_by (first_of (encode_tests top2 order (x ∷ y ∷ []))) (index_of plane order (cell2 x y))
+unfoldable pub encode2 : ℕ → ℕ → ℕ → Result ℕ Refusal
+encode2 x y order = answer_by (encode_tests top2 order (x ∷ y ∷ [])) (index_of plane order (cell2 x y))
 
-unfoldable pub encode3 : ℕ → ℕ → ℕ → ℕ → Coded
-encode3 x y z order = coded_by (first_of (encode_tests top3 order (x ∷ y ∷ z ∷ []))) (index_of space order (cell3 x y z))
+unfoldable pub encode3 : ℕ → ℕ → ℕ → ℕ → Result ℕ Refusal
+encode3 x y z order = answer_by (encode_tests top3 order (x ∷ y ∷ z ∷ [])) (index_of space order (cell3 x y z))
 
-unfoldable pub decode2 : ℕ → ℕ → Cell2
-decode2 index order = cell2_by (first_of (decode_tests 2 top2 order index)) (coordinate_of plane order index 1) (coordinate_of plane order index 0)
+unfoldable pub decode2 : ℕ → ℕ → Result (List ℕ) Refusal
+decode2 index order = answer_by (decode_tests 2 top2 order index) (coordinate_of plane order index 1 ∷ coordinate_of plane order index 0 ∷ [])
 
-unfoldable pub decode3 : ℕ → ℕ → Cell3
+unfoldable pub decode3 : ℕ → ℕ → Result (List ℕ) Refusal
 decode3 index order =
-    cell3_by (first_of (decode_tests 3 top3 order index)) (coordinate_of space order index 2) (coordinate_of space order index 1) (coordinate_of space order index 0)
+    answer_by
+    (decode_tests 3 top3 order index)
+    (coordinate_of space order index 2 ∷ coordinate_of space order index 1 ∷ coordinate_of space order index 0 ∷ [])
 
 -- the order of a call that names none
 abbrev pub default_order : ℕ

@@ -1,15 +1,11 @@
 -- The demands, as statements. Assumes nothing.
-use Rattle.std.specs.Prelude.{ℕ, zero, suc, ◌+◌, ◌-◌, ◌*◌, ◌^◌, ◌≤◌, ◌<◌, ◌≡◌, true, false, List, [], ◌∷◌, get_or, eqb}
+use Rattle.std.specs.Prelude.{ℕ, zero, suc, ◌+◌, ◌-◌, ◌*◌, ◌^◌, ◌≤◌, ◌<◌, ◌≡◌, true, false, List, [], ◌∷◌, get_or, eqb, Result, Ok}
 use Rattle.rules.specs.Sums.{total, sum_where}
 use Rattle.rules.specs.Grid.{cells, all_weight, heaviest_line}
-use Rattle.rules.specs.Refusals.{Test, top2, top3}
+use Rattle.rules.specs.Refusals.{Test, number_of, top2, top3}
+use Rattle.rules.specs.declared.refusal.Refusal.{Refusal}
 use Rattle.rules.specs.Curve.{encode2, encode3, decode2, decode3}
 use Rattle.rules.specs.Halving.{Halving, halving2, halving3, refusal_of, halve}
-use Rattle.rules.specs.declared.Coded.TheVariants.{Index}
-use Rattle.rules.specs.declared.Cell2.{Cell2}
-use Rattle.rules.specs.declared.Cell2.TheVariants as flat
-use Rattle.rules.specs.declared.Cell3.{Cell3}
-use Rattle.rules.specs.declared.Cell3.TheVariants as solid
 use Rattle.rules.specs.declared.Halving2.{Halving2}
 use Rattle.rules.specs.declared.Halving3.{Halving3}
 
@@ -28,7 +24,7 @@ NonePasses (t ∷ ts) = (t.passes ≡ false) × NonePasses ts
 -- the number of test i
 abbrev pub number_at : List Test → ℕ → ℕ
 number_at [] i = 0
-number_at (t ∷ ts) zero = t.number
+number_at (t ∷ ts) zero = number_of t.refusal
 number_at (t ∷ ts) (suc i) = number_at ts i
 
 -- both ways: the first test that passes gives its number, and where none passes the number is 0; a number other than 0 is that of the
@@ -44,22 +40,22 @@ pub record Exactly (tests : List Test) (number : ℕ) : Type 0 where
 abbrev pub DecodeEncode2 : Type 0
 DecodeEncode2 =
     (x y order : ℕ) → order ≤ top2 → x < 2 ^ order → y < 2 ^ order
-    → (i : ℕ) × (encode2 x y order ≡ Index i) × (decode2 i order ≡ flat.At x y)
+    → (i : ℕ) × (encode2 x y order ≡ Ok i) × (decode2 i order ≡ Ok (x ∷ y ∷ []))
 
 abbrev pub EncodeDecode2 : Type 0
 EncodeDecode2 =
     (i order : ℕ) → order ≤ top2 → i < 4 ^ order
-    → (x : ℕ) × (y : ℕ) × (decode2 i order ≡ flat.At x y) × (encode2 x y order ≡ Index i)
+    → (x : ℕ) × (y : ℕ) × (decode2 i order ≡ Ok (x ∷ y ∷ [])) × (encode2 x y order ≡ Ok i)
 
 abbrev pub DecodeEncode3 : Type 0
 DecodeEncode3 =
     (x y z order : ℕ) → order ≤ top3 → x < 2 ^ order → y < 2 ^ order → z < 2 ^ order
-    → (i : ℕ) × (encode3 x y z order ≡ Index i) × (decode3 i order ≡ solid.At x y z)
+    → (i : ℕ) × (encode3 x y z order ≡ Ok i) × (decode3 i order ≡ Ok (x ∷ y ∷ z ∷ []))
 
 abbrev pub EncodeDecode3 : Type 0
 EncodeDecode3 =
     (i order : ℕ) → order ≤ top3 → i < 8 ^ order
-    → (x : ℕ) × (y : ℕ) × (z : ℕ) × (decode3 i order ≡ solid.At x y z) × (encode3 x y z order ≡ Index i)
+    → (x : ℕ) × (y : ℕ) × (z : ℕ) × (decode3 i order ≡ Ok (x ∷ y ∷ z ∷ [])) × (encode3 x y z order ≡ Ok i)
 
 -- DEMAND 3
 
@@ -95,13 +91,13 @@ apart a b = (a - b) + (b - a)
 
 -- cells, and no refusals, whose differences on all axes add up to 1: by 1 in one coordinate and not at all in the others
 -- (`one_coordinate_by_one` of curve_laws)
-abbrev pub Beside2 : Cell2 → Cell2 → Type 0
-Beside2 c k = (x : ℕ) × (y : ℕ) × (u : ℕ) × (v : ℕ) × (c ≡ flat.At x y) × (k ≡ flat.At u v) × (apart x u + apart y v ≡ 1)
+abbrev pub Beside2 : Result (List ℕ) Refusal → Result (List ℕ) Refusal → Type 0
+Beside2 c k = (x : ℕ) × (y : ℕ) × (u : ℕ) × (v : ℕ) × (c ≡ Ok (x ∷ y ∷ [])) × (k ≡ Ok (u ∷ v ∷ [])) × (apart x u + apart y v ≡ 1)
 
-abbrev pub Beside3 : Cell3 → Cell3 → Type 0
+abbrev pub Beside3 : Result (List ℕ) Refusal → Result (List ℕ) Refusal → Type 0
 Beside3 c k =
     (x : ℕ) × (y : ℕ) × (z : ℕ) × (u : ℕ) × (v : ℕ) × (w : ℕ)
-    × (c ≡ solid.At x y z) × (k ≡ solid.At u v w) × (apart x u + apart y v + apart z w ≡ 1)
+    × (c ≡ Ok (x ∷ y ∷ z ∷ [])) × (k ≡ Ok (u ∷ v ∷ w ∷ [])) × (apart x u + apart y v + apart z w ≡ 1)
 
 abbrev pub Neighbours2 : Type 0
 Neighbours2 = (i order : ℕ) → order ≤ top2 → i + 1 < 4 ^ order → Beside2 (decode2 i order) (decode2 (i + 1) order)
@@ -110,7 +106,7 @@ abbrev pub Neighbours3 : Type 0
 Neighbours3 = (i order : ℕ) → order ≤ top3 → i + 1 < 8 ^ order → Beside3 (decode3 i order) (decode3 (i + 1) order)
 
 abbrev pub Ends2 : Type 0
-Ends2 = (order : ℕ) → order ≤ top2 → (decode2 0 order ≡ flat.At 0 0) × (decode2 (4 ^ order - 1) order ≡ flat.At (2 ^ order - 1) 0)
+Ends2 = (order : ℕ) → order ≤ top2 → (decode2 0 order ≡ Ok (0 ∷ 0 ∷ [])) × (decode2 (4 ^ order - 1) order ≡ Ok ((2 ^ order - 1) ∷ 0 ∷ []))
 
 abbrev pub Ends3 : Type 0
-Ends3 = (order : ℕ) → order ≤ top3 → (decode3 0 order ≡ solid.At 0 0 0) × (decode3 (8 ^ order - 1) order ≡ solid.At (2 ^ order - 1) 0 0)
+Ends3 = (order : ℕ) → order ≤ top3 → (decode3 0 order ≡ Ok (0 ∷ 0 ∷ 0 ∷ [])) × (decode3 (8 ^ order - 1) order ≡ Ok ((2 ^ order - 1) ∷ 0 ∷ 0 ∷ []))

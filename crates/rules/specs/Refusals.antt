@@ -1,23 +1,16 @@
 -- Numbers of refusal: the limits, the test of each number, the order of tests of each call, and the number and values that each answer stands
 -- for.
 -- Assumes nothing.
-use Rattle.std.specs.Prelude.{ℕ, zero, suc, ◌-◌, ◌*◌, ◌^◌, Bool, true, false, not, ◌&&◌, ◌||◌, List, [], ◌∷◌, length, eqb, leb, ltb, pos, negsuc, Float}
+use Rattle.std.specs.Prelude.{ℕ, zero, suc, ◌-◌, ◌*◌, ◌^◌, Bool, true, false, not, ◌&&◌, ◌||◌, List, [], ◌∷◌, length, eqb, leb, ltb, pos, negsuc, Float, ◌≡◌, ◌≢◌, Result, Ok, Err, MatchResult, cond}
 use Rattle.std.specs.Float.{fin, binary64}
 use Rattle.std.specs.Float.Ieee.{sub, lt, le}
 use Rattle.rules.specs.Sums.{any}
 use Rattle.rules.specs.Grid.{cells}
-use Rattle.rules.specs.declared.Coded.{Coded}
-use Rattle.rules.specs.declared.Coded.TheVariants as coded
-use Rattle.rules.specs.declared.Cell2.{Cell2}
-use Rattle.rules.specs.declared.Cell2.TheVariants as flat
-use Rattle.rules.specs.declared.Cell3.{Cell3}
-use Rattle.rules.specs.declared.Cell3.TheVariants as solid
+use Rattle.rules.specs.declared.refusal.Refusal.{Refusal}
+use Rattle.rules.specs.declared.refusal.Refusal.TheVariants.{Order, Coordinate, Index, NoPoints, Lengths, Value, Thin, Outside, Sides, Depth, Weight, Counts, Edition, First, Cell}
+use Rattle.rules.specs.declared.refusal.NoRefusal.{NoRefusal}
 use Rattle.rules.specs.declared.Axis.{Axis}
 use Rattle.rules.specs.declared.Axis.TheVariants.{Flat}
-use Rattle.rules.specs.declared.AxisAnswer.{AxisAnswer}
-use Rattle.rules.specs.declared.AxisAnswer.TheVariants as made
-use Rattle.rules.specs.declared.CellAnswer.{CellAnswer}
-use Rattle.rules.specs.declared.CellAnswer.TheVariants as found
 
 -- THE LIMITS
 
@@ -40,6 +33,29 @@ top_depth = 12
 
 abbrev pub top_weight : ℕ
 top_weight = 16777215
+
+-- THE NUMBERS
+
+abbrev pub number_of : Refusal → ℕ
+number_of Order = 1
+number_of Coordinate = 2
+number_of Index = 3
+number_of NoPoints = 4
+number_of Lengths = 5
+number_of Value = 6
+number_of Thin = 7
+number_of Outside = 8
+number_of Sides = 9
+number_of Depth = 10
+number_of Weight = 11
+number_of Counts = 12
+number_of Edition = 13
+number_of First = 14
+number_of Cell = 20
+
+-- the refusal with this number, or the number itself where it is none's
+abbrev pub NumberedBy : ℕ → Result Refusal NoRefusal → Type 0
+NumberedBy n found = MatchResult found (λ r. number_of r ≡ n) (λ e. (e.0 ≡ n) × ((r : Refusal) → number_of r ≢ n))
 
 -- THE TESTS
 
@@ -115,13 +131,13 @@ first_unknown n first = leb n first
 
 -- THE ORDER OF TESTS of each call, each written once, as a list
 
--- a test and its number
+-- a test, and why a call that passes it is refused
 pub record Test : Type 0 where
   pub passes : Bool
-  pub number : ℕ
+  pub refusal : Refusal
 
-abbrev pub test : Bool → ℕ → Test
-test b n = record { passes = b; number = n }
+abbrev pub test : Bool → Refusal → Test
+test b r = record { passes = b; refusal = r }
 
 -- the number of the first test that passes, 0 where none does
 abbrev pub refuse : Bool → ℕ → ℕ → ℕ
@@ -130,89 +146,82 @@ refuse false n later = later
 
 abbrev pub first_of : List Test → ℕ
 first_of [] = 0
-first_of (t ∷ ts) = refuse t.passes t.number (first_of ts)
+first_of (t ∷ ts) = refuse t.passes (number_of t.refusal) (first_of ts)
 
 unfoldable pub encode_tests : ℕ → ℕ → List ℕ → List Test
-encode_tests most order xs = test (order_over most order) 1 ∷ test (coordinate_over order xs) 2 ∷ []
+encode_tests most order xs = test (order_over most order) Order ∷ test (coordinate_over order xs) Coordinate ∷ []
 
 unfoldable pub decode_tests : ℕ → ℕ → ℕ → ℕ → List Test
-decode_tests d most order index = test (order_over most order) 1 ∷ test (index_over d order index) 3 ∷ []
+decode_tests d most order index = test (order_over most order) Order ∷ test (index_over d order index) Index ∷ []
 
 unfoldable pub axis_tests : Float → Float → ℕ → List Test
 axis_tests low high order =
-    test (order_over top2 order) 1
-    ∷ test (any value_unfit (low ∷ high ∷ [])) 6
-    ∷ test (reversed low high) 8
-    ∷ test (axis_thin low high) 7 ∷ []
+    test (order_over top2 order) Order
+    ∷ test (any value_unfit (low ∷ high ∷ [])) Value
+    ∷ test (reversed low high) Outside
+    ∷ test (axis_thin low high) Thin ∷ []
 
 -- of a value on an axis from low to high: made_up says that making the axis anew is refused or gives other bits
 unfoldable pub cell_tests : Bool → Float → Float → Float → List Test
-cell_tests made_up low high value = test made_up 8 ∷ test (value_unfit value) 6 ∷ test (outside low high value) 8 ∷ []
+cell_tests made_up low high value = test made_up Outside ∷ test (value_unfit value) Value ∷ test (outside low high value) Outside ∷ []
 
 -- of n points: the lengths of the other coordinate slices and of the index slice, all coordinates, and whether an axis is thin
 unfoldable pub index_tests : ℕ → ℕ → ℕ → List ℕ → Bool → Bool → List Test
 index_tests most order n lengths unfit thin =
-    test (order_over most order) 1 ∷ test (no_points n) 4 ∷ test (lengths_off n lengths) 5 ∷ test unfit 6 ∷ test thin 7 ∷ []
+    test (order_over most order) Order
+    ∷ test (no_points n) NoPoints
+    ∷ test (lengths_off n lengths) Lengths
+    ∷ test unfit Value
+    ∷ test thin Thin ∷ []
 
 -- of an edition's number, the first of n axes, and a grid with these sides, k levels, its weights, and the lengths of ids and splits
 unfoldable pub grid_tests : ℕ → ℕ → ℕ → List ℕ → ℕ → List ℕ → ℕ → ℕ → List Test
 grid_tests edition n first sides k ws ids splits =
-    test (edition_unknown edition) 13
-    ∷ test (first_unknown n first) 14
-    ∷ test (sides_unfit sides) 9
-    ∷ test (depth_over k) 10
-    ∷ test (grid_lengths_off sides k (length ws) ids splits) 5
-    ∷ test (weight_over ws) 11 ∷ []
+    test (edition_unknown edition) Edition
+    ∷ test (first_unknown n first) First
+    ∷ test (sides_unfit sides) Sides
+    ∷ test (depth_over k) Depth
+    ∷ test (grid_lengths_off sides k (length ws) ids splits) Lengths
+    ∷ test (weight_over ws) Weight ∷ []
 
--- THE ANSWERS: which one a number and a value make
+-- THE ANSWERS
 
-unfoldable pub coded_by : ℕ → ℕ → Coded
-coded_by zero index = coded.Index index
-coded_by (suc n) index = coded.Refused (suc n)
+-- a value, or why a call is refused: by the first test that passes
+abbrev pub answer_by : {A : Type 0} → List Test → A → Result A Refusal
+answer_by [] value = Ok value
+answer_by (t ∷ ts) value = cond t.passes (Err t.refusal) (answer_by ts value)
 
-unfoldable pub cell2_by : ℕ → ℕ → ℕ → Cell2
-cell2_by zero x y = flat.At x y
-cell2_by (suc n) x y = flat.Refused (suc n)
-
-unfoldable pub cell3_by : ℕ → ℕ → ℕ → ℕ → Cell3
-cell3_by zero x y z = solid.At x y z
-cell3_by (suc n) x y z = solid.Refused (suc n)
-
-unfoldable pub axis_by : ℕ → Axis → AxisAnswer
-axis_by zero a = made.Made a
-axis_by (suc n) a = made.Refused (suc n)
-
-unfoldable pub cell_by : ℕ → ℕ → CellAnswer
-cell_by zero c = found.Cell c
-cell_by (suc n) c = found.Refused (suc n)
+-- the number that an answer stands for
+abbrev pub number_in : {A : Type 0} → Result A Refusal → ℕ
+number_in (Ok value) = 0
+number_in (Err r) = number_of r
 
 -- a lent slice: what is written, or, after a refusal, what stood there
 unfoldable pub slice_by : ℕ → List ℕ → List ℕ → List ℕ
 slice_by zero written before = written
 slice_by (suc n) written before = before
 
--- and the number and values that each answer stands for: of a refusal every value is 0, an axis flat, +0.0, +0.0, order 0
+-- the number and values that an answer stands for: of a refusal every value is 0, an axis flat, +0.0, +0.0, order 0
 
 pub record Reading (A : Type 0) : Type 0 where
   pub number : ℕ
   pub value : A
 
-abbrev pub read_coded : Coded → Reading ℕ
-read_coded (coded.Index i) = record { number = 0; value = i }
-read_coded (coded.Refused n) = record { number = n; value = 0 }
+abbrev pub read : {A : Type 0} → A → Result A Refusal → Reading A
+read nothing (Ok value) = record { number = 0; value = value }
+read nothing (Err r) = record { number = number_of r; value = nothing }
 
-abbrev pub read_cell2 : Cell2 → Reading (List ℕ)
-read_cell2 (flat.At x y) = record { number = 0; value = x ∷ y ∷ [] }
-read_cell2 (flat.Refused n) = record { number = n; value = 0 ∷ 0 ∷ [] }
+abbrev pub read_coded : Result ℕ Refusal → Reading ℕ
+read_coded = read 0
 
-abbrev pub read_cell3 : Cell3 → Reading (List ℕ)
-read_cell3 (solid.At x y z) = record { number = 0; value = x ∷ y ∷ z ∷ [] }
-read_cell3 (solid.Refused n) = record { number = n; value = 0 ∷ 0 ∷ 0 ∷ [] }
+abbrev pub read_cell2 : Result (List ℕ) Refusal → Reading (List ℕ)
+read_cell2 = read (0 ∷ 0 ∷ [])
 
-abbrev pub read_axis : AxisAnswer → Reading Axis
-read_axis (made.Made a) = record { number = 0; value = a }
-read_axis (made.Refused n) = record { number = n; value = Flat nought nought 0 }
+abbrev pub read_cell3 : Result (List ℕ) Refusal → Reading (List ℕ)
+read_cell3 = read (0 ∷ 0 ∷ 0 ∷ [])
 
-abbrev pub read_cell : CellAnswer → Reading ℕ
-read_cell (found.Cell c) = record { number = 0; value = c }
-read_cell (found.Refused n) = record { number = n; value = 0 }
+abbrev pub read_axis : Result Axis Refusal → Reading Axis
+read_axis = read (Flat nought nought 0)
+
+abbrev pub read_cell : Result ℕ Refusal → Reading ℕ
+read_cell = read 0

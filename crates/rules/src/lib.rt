@@ -1,7 +1,7 @@
-// Document 01 as definitions, with the editions and first axes of document 02: the answers, the records, the limits and the numbers of refusal stand here,
+// Document 01 as definitions, with the editions and first axes of document 02: the refusals, the records and the limits stand here,
 // and what each of them means stands in specs/, a file for a chapter:
 //
-//   Refusals  the test of each number, the order of tests of each call, the number and values of each answer
+//   Refusals  the number and the test of each refusal, the order of tests of each call, the number and values of each answer
 //   Curve     the level machine, its 2D and 3D tables, deposit, encode, decode
 //   Axis      making an axis, the cell of a value, low and high of points
 //   Knots     the indices of all points
@@ -9,12 +9,17 @@
 //   Halving   lo and hi of both editions, the cut, the tree of splits, the ids
 //   Demands   what is to be shown of all this
 //
-// There is no function here but the two that make a halving's record without an edition and a first axis, and no proof but what is computed: the
+// There is no function here but those that make a halving's record without an edition and a first axis and those that lead from a refusal to its
+// number and text and back (refusal.rt), and no proof but what is computed: the
 // named cases (proofs/NamedCases.antt), and that the corners of the curve's quadrants meet in both tables (proofs/CornersMeet.antt).
 #![tactic(auto)]
 
 ghost use Rattle.std.specs.Prelude.{◌≡◌};
 ghost use Rattle.rules.specs.Halving.{of2, of3};
+
+mod refusal;
+
+pub use refusal::{NoRefusal, Refusal};
 
 // The order of a call that names none.
 pub const DEFAULT_ORDER: u32 = 16;
@@ -57,69 +62,6 @@ pub const DEFAULT_EDITION: u32 = 1;
 // The first axis of a halving that names none: y.
 pub const DEFAULT_FIRST: u32 = 1;
 
-// The numbers of refusal. 0: answered.
-pub const ANSWERED: u32 = 0;
-
-// The order is over the highest.
-pub const REFUSED_ORDER: u32 = 1;
-
-// A cell coordinate is 2^order or more.
-pub const REFUSED_COORDINATE: u32 = 2;
-
-// A decoder's index is 4^order, or 8^order in 3D, or more.
-pub const REFUSED_INDEX: u32 = 3;
-
-// There are no points.
-pub const REFUSED_NO_POINTS: u32 = 4;
-
-// Slice lengths don't fit.
-pub const REFUSED_LENGTHS: u32 = 5;
-
-// A coordinate is NaN, infinite, or too large in size.
-pub const REFUSED_VALUE: u32 = 6;
-
-// An axis is thin.
-pub const REFUSED_THIN: u32 = 7;
-
-// Low above high, a value outside low to high, or a made-up axis record.
-pub const REFUSED_OUTSIDE: u32 = 8;
-
-// A side is 0 or too long, or there are too many cells.
-pub const REFUSED_SIDES: u32 = 9;
-
-// The depth is too large.
-pub const REFUSED_DEPTH: u32 = 10;
-
-// A weight is too heavy.
-pub const REFUSED_WEIGHT: u32 = 11;
-
-// The edition is neither 1 nor 2.
-pub const REFUSED_EDITION: u32 = 13;
-
-// The first axis is not one of the grid's.
-pub const REFUSED_FIRST: u32 = 14;
-
-// An encoder's answer.
-#[derive(Clone, Copy)]
-pub enum Coded {
-    Index(u64),
-    Refused(u32),
-}
-
-// The answer of a decoder in 2D: x, y.
-#[derive(Clone, Copy)]
-pub enum Cell2 {
-    At(u64, u64),
-    Refused(u32),
-}
-
-// The answer of a decoder in 3D: x, y, z.
-#[derive(Clone, Copy)]
-pub enum Cell3 {
-    At(u64, u64, u64),
-    Refused(u32),
-}
-
 // An axis record: flat, or sloped with its factor.
 #[derive(Clone, Copy)]
 pub enum Axis {
@@ -134,20 +76,6 @@ pub enum Axis {
         order: u32,
         factor: f64,
     },
-}
-
-// The answer of making an axis.
-#[derive(Clone, Copy)]
-pub enum AxisAnswer {
-    Made(Axis),
-    Refused(u32),
-}
-
-// The answer of mapping a value on an axis.
-#[derive(Clone, Copy)]
-pub enum CellAnswer {
-    Cell(u64),
-    Refused(u32),
 }
 
 // Low and high of points on an axis.

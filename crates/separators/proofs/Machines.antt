@@ -1,48 +1,36 @@
--- What a machine has met at a text's end, one byte after the other. Assumes nothing.
-use Prim.Native.Nat.{ℕ, zero, suc, ◌+◌, ◌-◌, ◌≤◌, ◌<◌}
-use mathlib.Core.Path.{◌≡◌, refl, sym, ◌∙◌}
-use mathlib.Core.List.{List}
-use native.Mathlib.Omega.{arith}
-use lib.ListN.{get_or, length}
-use Rattle.separators.specs.Machines.{after, at_end}
+-- What a machine has met with one byte more, and what holds of it at a text's end. Assumes nothing.
+use Rattle.std.proofs.Common.{◌≡◌, ℕ, zero, suc, ◌+◌, ◌-◌, ◌≤◌, ◌<◌, List, get_or, length, drop, refl, sym, ◌∙◌, arith}
+use Rattle.std.proofs.lemmas.List.{drop_more, drop_all}
+use Rattle.std.specs.declared.ops.ControlFlow.{ControlFlow}
+use Rattle.std.specs.declared.ops.ControlFlow.TheVariants.{Continue, Break}
+use Rattle.separators.specs.Machines.{after}
 
-module _ {A : Type 0} (step : A → ℕ → ℕ → A) (t : List ℕ) where
-  one_more : (met : A) (at n : ℕ) → 0 < n → after step met t at n ≡ after step (step met (get_or t at 0) at) t (at + 1) (n - 1)
-  unfolding after
-  one_more met at zero p = absurd (omega arith)
-  one_more met at (suc n) p = let e : suc n - 1 ≡ n = omega arith in rw e
+module _ {A B : Type 0} (step : A → ℕ → ℕ → ControlFlow B A) where
+  pub one_more : (met : A) (t : List ℕ) (n start : ℕ) → n < length t
+      → after step (Continue met) (drop n t) (start + n) ≡ after step (step met (get_or t n 0) (start + n)) (drop (n + 1) t) (start + (n + 1))
+  one_more met t n start h = let e : start + (n + 1) ≡ start + n + 1 = omega arith in rw (drop_more t n 0 h, e) refl
 
-  -- one byte more
-  pub goes_on : (met : A) (at : ℕ) → at < length t → at_end step met t at ≡ at_end step (step met (get_or t at 0) at) t (at + 1)
-  unfolding at_end
-  goes_on met at h = let e : length t - at - 1 ≡ length t - (at + 1) = omega arith in one_more met at (length t - at) (omega arith) ∙ rw e
+  pub goes_on : (met : A) (t : List ℕ) (at : ℕ) → at < length t → after step (Continue met) (drop at t) at ≡ after step (step met (get_or t at 0) at) (drop (at + 1) t) (at + 1)
+  goes_on met t at h = rw (drop_more t at 0 h) refl
 
   -- so what has been met at the end stays the same
-  pub reads_on : (met next end : A) (at : ℕ) → at < length t → next ≡ step met (get_or t at 0) at → at_end step met t at ≡ end → at_end step next t (at + 1) ≡ end
-  reads_on met next end at h e same = rw e (sym (goes_on met at h) ∙ same)
+  pub reads_on : (met : A) (next end : ControlFlow B A) (t : List ℕ) (at : ℕ) → at < length t → next ≡ step met (get_or t at 0) at
+      → after step (Continue met) (drop at t) at ≡ end → after step next (drop (at + 1) t) (at + 1) ≡ end
+  reads_on met next end t at h e same = rw e (sym (goes_on met t at h) ∙ same)
 
-  -- none
-  pub ends : (met : A) (at : ℕ) → length t ≤ at → at_end step met t at ≡ met
-  unfolding at_end after
-  ends met at h = let e : length t - at ≡ 0 = omega arith in rw e
+  -- what each step keeps, and every byte more of a text where it broke off, holds at the text's end
+  module _ (t : List ℕ) (P : ℕ → ControlFlow B A → Type 0) (longer : (i : ℕ) (x : B) → P i (Break x) → P (i + 1) (Break x))
+      (kept : (i : ℕ) (met : A) → P i (Continue met) → P (i + 1) (step met (get_or t i 0) i)) where
+    holds : (n : ℕ) (r : ControlFlow B A) (at : ℕ) → at + n ≡ length t → P at r → P (length t) (after step r (drop at t) at)
+    holds zero (Break x) at e p = let same : at ≡ length t = omega arith in rw same at p
+    holds zero (Continue met) at e p =
+        let same : at ≡ length t = omega arith in
+        let none : length t ≤ at = omega arith in
+        rw (drop_all at t none) (rw same at p)
+    holds (suc n) (Break x) at e p = holds n (Break x) (at + 1) (omega arith) (longer at x p)
+    holds (suc n) (Continue met) at e p =
+        let h : at < length t = omega arith in
+        rw (drop_more t at 0 h) (holds n (step met (get_or t at 0) at) (at + 1) (omega arith) (kept at met p))
 
-  -- any, where no byte changes what has been met
-  still : (met : A) → ((b place : ℕ) → step met b place ≡ met) → (at n : ℕ) → after step met t at n ≡ met
-  unfolding after
-  still met h at zero = refl
-  still met h at (suc n) = rw (h (get_or t at 0) at) (still met h (at + 1) n)
-
-  pub stays : (met : A) → ((b place : ℕ) → step met b place ≡ met) → (at : ℕ) → at_end step met t at ≡ met
-  unfolding at_end
-  stays met h at = still met h at (length t - at)
-
-  -- what each step keeps holds at the end
-  module _ (P : ℕ → A → Type 0) (kept : (i : ℕ) (met : A) → P i met → P (i + 1) (step met (get_or t i 0) i)) where
-    holds_after : (met : A) (at n : ℕ) → P at met → P (at + n) (after step met t at n)
-    unfolding after
-    holds_after met at zero p = let e : at + 0 ≡ at = omega arith in rw e p
-    holds_after met at (suc n) p = let e : at + suc n ≡ at + 1 + n = omega arith in rw e (holds_after (step met (get_or t at 0) at) (at + 1) n (kept at met p))
-
-    pub holds_at_end : (met : A) (at : ℕ) → at ≤ length t → P at met → P (length t) (at_end step met t at)
-    unfolding at_end
-    holds_at_end met at l p = let e : at + (length t - at) ≡ length t = omega arith in rw e at (holds_after met at (length t - at) p)
+    pub holds_at_end : (r : ControlFlow B A) (at : ℕ) → at ≤ length t → P at r → P (length t) (after step r (drop at t) at)
+    holds_at_end r at l p = holds (length t - at) r at (omega arith) p

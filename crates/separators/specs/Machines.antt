@@ -1,11 +1,10 @@
--- What a machine has met that takes a text a byte a step. Assumes nothing.
-use Rattle.std.specs.Prelude.{ℕ, zero, suc, ◌+◌, ◌-◌, List, get_or, length}
+-- What a machine has met that takes a text a byte a step, until it breaks. Assumes nothing.
+use Rattle.std.specs.Prelude.{ℕ, ◌+◌, List, [], ◌∷◌}
+use Rattle.std.specs.declared.ops.ControlFlow.{ControlFlow}
+use Rattle.std.specs.declared.ops.ControlFlow.TheVariants.{Continue, Break}
 
--- n bytes from a place on; a step takes what has been met, a byte and its place
-unfoldable pub after : {A : Type 0} → (A → ℕ → ℕ → A) → A → List ℕ → ℕ → ℕ → A
-after step met t at zero = met
-after step met t at (suc n) = after step (step met (get_or t at 0) at) t (at + 1) n
-
--- all bytes from a place on
-unfoldable pub at_end : {A : Type 0} → (A → ℕ → ℕ → A) → A → List ℕ → ℕ → A
-at_end step met t at = after step met t at (length t - at)
+-- with all bytes more of a list, the first of which stands at a place; a step takes what has been met, a byte and its place
+abbrev pub after : {A B : Type 0} → (A → ℕ → ℕ → ControlFlow B A) → ControlFlow B A → List ℕ → ℕ → ControlFlow B A
+after step (Break b) t at = Break b
+after step (Continue met) [] at = Continue met
+after step (Continue met) (b ∷ t) at = after step (step met b at) t (at + 1)

@@ -20,11 +20,7 @@ fn weigh(weights: &[u64]) -> u64
     requires { Light weights.now }
     ensures { result ≡ total (at weights.now) (length weights.now) }
 {
-    let mut sum: u64 = 0;
-    for i in 0..weights.len() {
-        sum += weights[i];
-    }
-    sum
+    weights.iter().sum()
 }
 
 // The last split of n, from `k` on, that the weight `sum` reaches.
@@ -34,14 +30,12 @@ fn advance(k: u32, n: u32, all: u64, sum: u64) -> u32
     ensures { Advanced k n all sum result }
 {
     let have = n as u64 * sum;
-    let mut r = k;
-    while r + 1 < n {
-        if have < (r + 1) as u64 * all {
-            return r;
+    for r in k + 1..n {
+        if have < r as u64 * all {
+            return r - 1;
         }
-        r += 1;
     }
-    r
+    n - 1
 }
 
 // Writes the parts of all points, along their order: those of one index get how many splits are below it.
@@ -55,8 +49,8 @@ pub fn assign(n: u32, indices: &[u64], weights: &[u64], order: &[u32], parts: &m
     let mut sum: u64 = 0;
     let mut k: u32 = 0;
     let mut last = indices[order[0] as usize];
-    for j in 0..order.len() {
-        let point = order[j] as usize;
+    for place in order {
+        let point = *place as usize;
         let index = indices[point];
         if last < index {
             k = advance(k, n, all, sum);

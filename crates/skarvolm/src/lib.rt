@@ -3,7 +3,7 @@
 // Each function hands its call on: values behind pointers are those of `curve_out` and `axis_out`, 0 after a refusal; a slice is a pointer and a
 // length, and is as it was after a refusal. Number and values are those that the rules' answers stand for (`read_coded` and its like). No second
 // outcome fits (proofs/Once.antt, `skarvolm_encode_2d_only` and so on); the demands hold of every outcome that fits (crate demands_met).
-#![tactic(auto)]
+#![tactic(auto, using(crate::proofs::Numbers::stands_for))]
 
 ghost use Rattle.std.specs.Prelude.{◌≡◌, get_or};
 ghost use Rattle.rules.specs.Refusals.{read_coded, read_cell2, read_cell3, read_cell};
@@ -13,6 +13,7 @@ ghost use Rattle.requests.specs.Parts.{parts_along};
 ghost use Rattle.axis_out.specs.Cells.{cell_between};
 ghost use Rattle.skarvolm.specs.Calls.{in2, in3, rcb2, rcb3, halve2, halve3, replay2, replay3};
 
+use apart::refusal_of;
 use rules::{EDITION_2, Extent, Halving2, Halving3};
 
 // The bits of `source` laid onto the set bits of `mask`.
@@ -70,7 +71,7 @@ pub fn skarvolm_index_2d(xs: &[f64], ys: &[f64], order: u32, indices: &mut [u64]
     ensures number { result ≡ (index_all2 xs.now ys.now order indices.old).number }
     ensures filed { indices.new ≡ (index_all2 xs.now ys.now order indices.old).indices }
 {
-    knots::index_2d(xs, ys, order, indices)
+    refusal_of(knots::index_2d(xs, ys, order, indices))
 }
 
 // The indices of all points in 3D.
@@ -78,7 +79,7 @@ pub fn skarvolm_index_3d(xs: &[f64], ys: &[f64], zs: &[f64], order: u32, indices
     ensures number { result ≡ (index_all3 xs.now ys.now zs.now order indices.old).number }
     ensures filed { indices.new ≡ (index_all3 xs.now ys.now zs.now order indices.old).indices }
 {
-    knots::index_3d(xs, ys, zs, order, indices)
+    refusal_of(knots::index_3d(xs, ys, zs, order, indices))
 }
 
 // The indices of all points on axes from low to high.
@@ -103,7 +104,7 @@ pub fn skarvolm_index_2d_in(
         low: ylow,
         high: yhigh,
     };
-    knots::index_2d_in(xs, ys, x, y, order, indices)
+    refusal_of(knots::index_2d_in(xs, ys, x, y, order, indices))
 }
 
 // The indices of all points on axes from low to high in 3D.
@@ -135,7 +136,7 @@ pub fn skarvolm_index_3d_in(
         low: zlow,
         high: zhigh,
     };
-    knots::index_3d_in(xs, ys, zs, x, y, z, order, indices)
+    refusal_of(knots::index_3d_in(xs, ys, zs, x, y, z, order, indices))
 }
 
 // The splits and ids of a halved grid, by edition 1, across y first.
@@ -152,7 +153,7 @@ pub fn skarvolm_rcb_2d(
     ensures ids { ids.new ≡ (rcb2 width height depth weights.now splits.old ids.old).ids }
 {
     let halving = Halving2::of(width, height, depth);
-    halving::rcb_2d(halving, weights, splits, ids)
+    refusal_of(halving::rcb_2d(halving, weights, splits, ids))
 }
 
 // The splits and ids of a halved grid in 3D, by edition 1, across y first.
@@ -170,7 +171,7 @@ pub fn skarvolm_rcb_3d(
     ensures ids { ids.new ≡ (rcb3 width height layers depth weights.now splits.old ids.old).ids }
 {
     let halving = Halving3::of(width, height, layers, depth);
-    halving::rcb_3d(halving, weights, splits, ids)
+    refusal_of(halving::rcb_3d(halving, weights, splits, ids))
 }
 
 // The splits and ids of a halved grid, by the edition of a number, across the axis `first` first.
@@ -195,7 +196,7 @@ pub fn skarvolm_halve_2d(
         first,
         depth,
     };
-    halving::rcb_2d(halving, weights, splits, ids)
+    refusal_of(halving::rcb_2d(halving, weights, splits, ids))
 }
 
 // The splits and ids of a halved grid in 3D, by the edition of a number, across the axis `first` first.
@@ -222,7 +223,7 @@ pub fn skarvolm_halve_3d(
         first,
         depth,
     };
-    halving::rcb_3d(halving, weights, splits, ids)
+    refusal_of(halving::rcb_3d(halving, weights, splits, ids))
 }
 
 // The parts of points along the curve, and the points in order.
@@ -237,7 +238,7 @@ pub fn skarvolm_parts(
     ensures parts { parts.new ≡ (parts_along n indices.now weights.now parts.old order.old).parts }
     ensures order { order.new ≡ (parts_along n indices.now weights.now parts.old order.old).order }
 {
-    parts::parts_along(n, indices, weights, parts, order)
+    refusal_of(parts::parts_along(n, indices, weights, parts, order))
 }
 
 // A bench night replayed on a grid, by edition 2: the weights, answers, splits and ids after it.
@@ -266,7 +267,7 @@ pub fn skarvolm_replay_2d(
         first,
         depth,
     };
-    replay::replay_2d(by_edition_2, weights, cells, amounts, answers, splits, ids)
+    refusal_of(replay::replay_2d(by_edition_2, weights, cells, amounts, answers, splits, ids))
 }
 
 // A bench night replayed on a grid in 3D, by edition 2: the weights, answers, splits and ids after it.
@@ -297,5 +298,5 @@ pub fn skarvolm_replay_3d(
         first,
         depth,
     };
-    replay::replay_3d(by_edition_2, weights, cells, amounts, answers, splits, ids)
+    refusal_of(replay::replay_3d(by_edition_2, weights, cells, amounts, answers, splits, ids))
 }

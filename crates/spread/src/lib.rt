@@ -64,7 +64,7 @@ fn step(runs: u64, shift: u32, mask: u64) -> u64
     (runs | (runs << shift)) & mask
 }
 
-// The deposit on every second bit, from bit 0, in five steps.
+// The deposit on every second bit, from bit 0, in five steps. It and spread_3d differ in their constants alone, which stand plainest in a row.
 fn spread_2d(source: u64) -> u64
     ensures { result ≡ deposit_of source 0x5555_5555_5555_5555 }
 {
@@ -103,7 +103,7 @@ pub fn deposit(source: u64, mask: u64) -> u64
     }
 }
 
-// The bits of x and y side by side.
+// The bits of x and y side by side. It and zorder_3d share no more than the `|`, since each has its own way to spread bits.
 pub fn zorder_2d(x: u64, y: u64, order: u32) -> u64
     requires { (order ≤ 32) × (x < 2 ^ order) × (y < 2 ^ order) }
     ensures { Interleaved 2 order (cell2 x y) result }

@@ -1,7 +1,8 @@
 // The entries of states 2 and 3 in the table of six levels at once (crate curve_table), a quarter of a state for each quadrant of the topmost
 // level. The rule is computed at every entry.
 //
-// A literal's check grows with the square of its length, so that each quarter is a literal of its own.
+// A literal's check grows with the square of its length, so that each quarter is a literal of its own, in a function of its own, since a const
+// parameter chooses no literal. An edit proves all literals of its crate again, so that no more than two states stand in one.
 //
 // The slow machine is that of Célestin Marot, "Parallel tetrahedral mesh generation" (http://hdl.handle.net/2078.1/240626). This file is
 // written by `tools/make_table 2 3 > crates/table_states_2_3/src/lib.rt`.

@@ -1,16 +1,12 @@
 -- Every token lies in its text and goes on from where it was looked for. Assumes nothing.
-use Prim.Native.Nat.{ℕ, zero, suc, ◌+◌, ◌-◌, ◌≤◌, ◌<◌}
-use mathlib.Core.Path.{◌≡◌, refl}
-use mathlib.Core.Bool.{Bool, true, false, not, cond}
-use mathlib.Core.List.{List}
-use native.Mathlib.Omega.{arith}
-use lib.ListN.{get_or, length}
-use lib.Dec.{leb}
+use Rattle.std.proofs.Common.{ℕ, ◌+◌, ◌≤◌, ◌<◌, ◌≡◌, refl, Bool, true, false, not, cond, List, get_or, length, drop, leb, arith, length-drop}
+use Rattle.std.proofs.lemmas.List.{get_or-drop}
+use Rattle.std.proofs.lemmas.List.Sums.{prefix_len-le-length, prefix_len-drop_yes, prefix_len_stops}
+use Rattle.std.specs.List.{prefix_len}
+use Rattle.std.proofs.lemmas.List.Folds.{length-prefix_len}
 use borrow.Author.Tests.{leb-false}
 use Rattle.text.specs.Bytes.{is_gap, is_line_end, is_hash}
-use Rattle.text.specs.Tokens.{first_from, stops_of, run_end, token_at}
-use Rattle.text.specs.declared.token.Run.{Run}
-use Rattle.text.specs.declared.token.Run.TheVariants as run
+use Rattle.text.specs.Tokens.{run_end, is_letter, token_at}
 use Rattle.text.specs.declared.token.Token.{Token}
 use Rattle.text.specs.declared.token.Token.TheVariants.{Word, Comment, LineEnd, End}
 
@@ -21,63 +17,38 @@ GoesOn at n (Comment end) = (at < end) × (end ≤ n)
 GoesOn at n (LineEnd next) = (at < next) × (next ≤ n)
 GoesOn at n End = Unit {0}
 
--- one byte of a run, whether it ends there or not
-between : (b : Bool) (at n next : ℕ) → (suc at ≤ next) × (next ≤ suc at + n) → (at ≤ cond b at next) × (cond b at next ≤ at + suc n)
-between true at n next h = (omega arith, omega arith)
-between false at n next h = (omega arith, omega arith)
+within : (p : ℕ → Bool) (t : List ℕ) (at : ℕ) → at ≤ length t → run_end p t at ≤ length t
+within p t at l = omega (arith, length-prefix_len p (drop at t), prefix_len-le-length p (drop at t), length-drop at t)
 
-from_on : (p : ℕ → Bool) (t : List ℕ) (at n : ℕ) → (at ≤ first_from p t at n) × (first_from p t at n ≤ at + n)
-unfolding first_from
-from_on p t at zero = (omega arith, omega arith)
-from_on p t at (suc n) = between (p (get_or t at 0)) at n (first_from p t (suc at) n) (from_on p t (suc at) n)
+-- a run passes its first byte
+passes_first : (p : ℕ → Bool) (t : List ℕ) (at : ℕ) → at < length t → p (get_or t at 0) ≡ true → at < run_end p t at
+passes_first p t at l e = omega (arith, length-prefix_len p (drop at t), prefix_len-drop_yes p t at 0 l e)
 
--- a run that does not end at its first byte passes it
-past_first : (p : ℕ → Bool) (t : List ℕ) (at n : ℕ) → 0 < n → p (get_or t at 0) ≡ false → at < first_from p t at n
-unfolding first_from
-past_first p t at zero l e = absurd (omega arith)
-past_first p t at (suc n) l e = rw e (let h = from_on p t (suc at) n in omega arith)
-
-run_on : (r : Run) (t : List ℕ) (at : ℕ) → (at ≤ run_end r t at) × (run_end r t at ≤ at + (length t - at))
-unfolding run_end
-run_on r t at = from_on (stops_of r) t at (length t - at)
-
--- the run of gaps ends before the text's end at a byte that is no gap
-no_gap : (b : Bool) (t : List ℕ) (at n next : ℕ) → is_gap (get_or t at 0) ≡ b → (next < suc at + n → is_gap (get_or t next 0) ≡ false)
-    → cond (not b) at next < at + suc n → is_gap (get_or t (cond (not b) at next) 0) ≡ false
-no_gap true t at n next e f l = f (omega arith)
-no_gap false t at n next e f l = e
-
-ends_no_gap : (t : List ℕ) (at n : ℕ) → first_from (stops_of run.Gaps) t at n < at + n → is_gap (get_or t (first_from (stops_of run.Gaps) t at n) 0) ≡ false
-unfolding first_from stops_of
-ends_no_gap t at zero l = absurd (omega arith)
-ends_no_gap t at (suc n) l = no_gap (is_gap (get_or t at 0)) t at n _ refl (ends_no_gap t (suc at) n) l
+-- and ends in the text at a byte that is none of it
+stops : (p : ℕ → Bool) (t : List ℕ) (at : ℕ) → run_end p t at < length t → p (get_or t (run_end p t at) 0) ≡ false
+stops p t at l =
+    let short : prefix_len p (drop at t) < length (drop at t) = omega (arith, length-prefix_len p (drop at t), length-drop at t) in
+    rw (length-prefix_len p (drop at t), ← get_or-drop at t (prefix_len p (drop at t)) 0) (prefix_len_stops p (drop at t) 0 short)
 
 cases : (b : Bool) (at n : ℕ) (x y : Token) → (b ≡ true → GoesOn at n x) → (b ≡ false → GoesOn at n y) → GoesOn at n (cond b x y)
 cases true at n x y f g = f refl
 cases false at n x y f g = g refl
 
-word_stops : (b : ℕ) → is_gap b ≡ false → is_line_end b ≡ false → is_hash b ≡ false → stops_of run.Word b ≡ false
-unfolding stops_of
-word_stops b p q r = rw (p, q, r)
+word_starts : (b : ℕ) → is_gap b ≡ false → is_line_end b ≡ false → is_hash b ≡ false → is_letter b ≡ true
+word_starts b p q r = rw (p, q, r) refl
 
-comment_goes_on : (b : ℕ) → is_line_end b ≡ false → stops_of run.Comment b ≡ false
-unfolding stops_of
-comment_goes_on b p = p
+comment_starts : (b : ℕ) → is_line_end b ≡ false → not (is_line_end b) ≡ true
+comment_starts b p = rw p refl
 
 pub token_goes_on : (t : List ℕ) (at : ℕ) → GoesOn at (length t) (token_at t at)
-unfolding token_at run_end
 token_goes_on t at =
     let n : ℕ = length t in
-    let i : ℕ = run_end run.Gaps t at in
-    let h = run_on run.Gaps t at in
+    let i : ℕ = run_end is_gap t at in
     cases (leb n i) at n End _ (λ _. tt)
     (λ short. let l : i < n = leb-false n i short in
-    let gap : is_gap (get_or t i 0) ≡ false = ends_no_gap t at (n - at) (omega arith) in
     cases (is_line_end (get_or t i 0)) at n (LineEnd (i + 1)) _ (λ _. (omega arith, omega arith))
-    (λ line. cases (is_hash (get_or t i 0)) at n (Comment (run_end run.Comment t i)) _
-    (λ _. let k = run_on run.Comment t i in
-    let p : i < run_end run.Comment t i = past_first (stops_of run.Comment) t i (n - i) (omega arith) (comment_goes_on (get_or t i 0) line) in
-    (omega arith, omega arith))
-    (λ hash. let k = run_on run.Word t i in
-    let p : i < run_end run.Word t i = past_first (stops_of run.Word) t i (n - i) (omega arith) (word_stops (get_or t i 0) gap line hash) in
-    (omega arith, p, omega arith))))
+    (λ line. cases (is_hash (get_or t i 0)) at n (Comment (run_end (λ b. not (is_line_end b)) t i)) _
+    (λ _. let some = passes_first (λ b. not (is_line_end b)) t i l (comment_starts (get_or t i 0) line) in
+    (omega arith, within (λ b. not (is_line_end b)) t i (omega arith)))
+    (λ hash. let some = passes_first is_letter t i l (word_starts (get_or t i 0) (stops is_gap t at l) line hash) in
+    (omega arith, some, within is_letter t i (omega arith)))))

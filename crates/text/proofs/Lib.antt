@@ -1,4 +1,2 @@
-pub mod Along
-pub mod Runs
 pub mod GoesOn
 pub mod Once

@@ -1,17 +1,13 @@
 -- Where a byte of a text stands. Assumes nothing.
-use Rattle.std.specs.Prelude.{ℕ, zero, suc, ◌+◌, min, Bool, true, false, List, get_or, length}
+use Rattle.std.specs.Prelude.{ℕ, ◌+◌, not, List, take, reverse, count_by}
 use Rattle.text.specs.Bytes.{is_line_end}
+use Rattle.text.specs.Tokens.{run_of}
 use Rattle.text.specs.declared.place.Place.{Place}
 
--- the place after one byte more, a line's end or not
-abbrev pub past : Bool → Place → Place
-past true p = record { line = p.line + 1; column = 1 }
-past false p = record { line = p.line; column = p.column + 1 }
-
-unfoldable pub place_of : List ℕ → ℕ → Place
-place_of t zero = record { line = 1; column = 1 }
-place_of t (suc n) = past (is_line_end (get_or t n 0)) (place_of t n)
+-- behind the bytes that a text begins with: lines and columns count from 1
+abbrev pub place_behind : List ℕ → Place
+place_behind t = record { line = count_by is_line_end t + 1; column = run_of (λ b. not (is_line_end b)) (reverse t) + 1 }
 
 -- a place behind the text counts as its end
 abbrev pub place_at : List ℕ → ℕ → Place
-place_at t at = place_of t (min at (length t))
+place_at t at = place_behind (take at t)

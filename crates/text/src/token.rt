@@ -1,11 +1,11 @@
 // From one word or line's end of a text to the next.
-ghost use Rattle.std.specs.Prelude.{◌≡◌};
-ghost use Rattle.text.specs.Bytes.{is_gap};
-ghost use Rattle.text.specs.Tokens.{stops_of, run_end, token_at};
+ghost use Rattle.std.specs.Prelude.{◌≡◌, not};
+ghost use Rattle.text.specs.Bytes.{is_gap, is_line_end};
+ghost use Rattle.text.specs.Tokens.{is_letter, run_of, token_at};
 
 // What stands next in a text: a word from its first byte to before another, a comment to before its line's end, a line's end
-// with the place after it, or the text's end.
-#[derive(Drop)]
+// with the place after it, or the text's end. No Option: `token_at` and `token_goes_on` speak of `End` as of the other cases.
+#[derive(Clone, Copy, Debug, PartialEq, Eq)]
 pub enum Token {
     Word(usize, usize),
     Comment(usize),
@@ -13,79 +13,55 @@ pub enum Token {
     End,
 }
 
-// What is passed over.
-#[derive(Clone, Copy)]
-pub enum Run {
-    Gaps,
-    Comment,
-    Word,
-}
-
 // Whether a byte is a space, a comma, a tab or a carriage return.
 fn is_gap(b: u8) -> bool
     ensures { result ≡ is_gap b }
 {
-    if b == b' ' {
-        return true;
-    }
-    if b == b',' {
-        return true;
-    }
-    if b == b'\t' {
-        return true;
-    }
-    b == b'\r'
+    matches!(b, b' ' | b',' | b'\t' | b'\r')
 }
 
-// Whether a run ends before a byte.
-#[tactic(auto, unfolding(crate::specs::Tokens::stops_of))]
-fn stops(run: Run, b: u8) -> bool
-    ensures { result ≡ stops_of run b }
+// Whether a byte belongs to a word.
+fn is_letter(b: u8) -> bool
+    ensures { result ≡ is_letter b }
 {
-    match run {
-        Run::Gaps => !is_gap(b),
-        Run::Comment => b == b'\n',
-        Run::Word => {
-            if is_gap(b) {
-                return true;
-            }
-            if b == b'\n' {
-                return true;
-            }
-            b == b'#'
-        }
-    }
+    !(is_gap(b) || b == b'\n' || b == b'#')
 }
 
-// Where a run that goes on at `at` ends.
-fn run_end(text: &[u8], at: usize, run: Run) -> usize
-    ensures { result ≡ run_end run text.now at }
+// How many gaps stand first.
+fn gaps(rest: &[u8]) -> usize
+    ensures { result ≡ run_of is_gap rest.now }
 {
-    let mut i = at;
-    while i < text.len() {
-        if stops(run, text[i]) {
-            return i;
-        }
-        i += 1;
-    }
-    i
+    rest.iter().take_while(|b| is_gap(**b)).count()
+}
+
+// How long the comment is that stands first.
+fn comment(rest: &[u8]) -> usize
+    ensures { result ≡ run_of (λ b. not (is_line_end b)) rest.now }
+{
+    rest.iter().take_while(|b| **b != b'\n').count()
+}
+
+// How long the word is that stands first.
+fn word(rest: &[u8]) -> usize
+    ensures { result ≡ run_of is_letter rest.now }
+{
+    rest.iter().take_while(|b| is_letter(**b)).count()
 }
 
 // What stands next in the text from `at` on.
-#[tactic(auto, unfolding(crate::specs::Tokens::token_at))]
 pub fn next_token(text: &[u8], at: usize) -> Token
     ensures { result ≡ token_at text.now at }
 {
-    let i = run_end(text, at, Run::Gaps);
-    if text.len() <= i {
+    if text.len() <= at {
         return Token::End;
     }
-    let b = text[i];
-    if b == b'\n' {
-        return Token::LineEnd(i + 1);
+    let start = at + gaps(&text[at..]);
+    if text.len() <= start {
+        return Token::End;
     }
-    if b == b'#' {
-        return Token::Comment(run_end(text, i, Run::Comment));
+    match text[start] {
+        b'\n' => Token::LineEnd(start + 1),
+        b'#' => Token::Comment(start + comment(&text[start..])),
+        _ => Token::Word(start, start + word(&text[start..])),
     }
-    Token::Word(i, run_end(text, i, Run::Word))
 }

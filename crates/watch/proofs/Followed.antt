@@ -1,5 +1,5 @@
 -- A raised part is heavier than the heaviest, or the heaviest stays so.
-use Prim.Native.Nat.{ℕ, ◌+◌, ◌≤◌, ◌<◌}
+use Prim.Native.Nat.{ℕ, ◌+◌, ◌≤◌, ◌<◌, max}
 use native.Mathlib.Omega.{arith}
 use native.Mathlib.Nat.{eq-or-lt_of_le, le_refl, le_of_lt, le_trans}
 use mathlib.Core.Bool.{true, false}
@@ -7,6 +7,8 @@ use mathlib.Core.Logic.{⊎_elim, ◌⊎◌, inl, inr}
 use mathlib.Core.Path.{◌≡◌}
 use mathlib.Core.List.{List}
 use lib.Dec.{eqb}
+use lib.ListN.{length, take}
+use Rattle.std.proofs.lemmas.List.{get_or-take, length-take-le}
 use borrow.Author.Tests.{eqb-true, eqb-false, ne_eqb}
 use Rattle.rules.specs.Sums.{pick}
 use Rattle.requests.specs.Order.{at}
@@ -14,27 +16,38 @@ use Rattle.tally_laws.proofs.Lines.{either}
 use Rattle.lightest.proofs.Root.{raised_one}
 use Rattle.watch.specs.Watched.{Heaviest, Watched, Was}
 
--- one part more is looked at
-last? : (i n : ℕ) → i < n + 1 → (i ≡ n) ⊎ (i < n)
-last? i n h = let l : i ≤ n = omega arith in eq-or-lt_of_le l
-
+-- one part more is looked at; before any is, the first is taken
 module _ (parts : List ℕ) where
-  pub heaviest_one : Heaviest 1 parts 0
-  heaviest_one = record { inside = omega arith; top = λ i l. let e : i ≡ 0 = omega arith in rw e (le_refl _) }
+  pub heaviest_first : Heaviest (max 1 0) parts 0
+  heaviest_first = record { inside = omega arith; top = λ i l. let e : i ≡ 0 = omega arith in rw e (le_refl _) }
 
-  pub heaviest_next : (n r : ℕ) → Heaviest n parts r → at parts r < at parts n → Heaviest (n + 1) parts n
-  heaviest_next n r h l =
-      record {
-        inside = omega arith;
-        top = λ i q. ⊎_elim (λ (e : i ≡ n). rw e (le_refl _)) (λ (p : i < n). le_trans (h.top i p) (le_of_lt l)) (last? i n q);
-      }
+  last? : (i n : ℕ) → i < max 1 (n + 1) → (i ≡ n) ⊎ (i < n)
+  last? i n h = let l : i ≤ n = omega arith in eq-or-lt_of_le l
 
-  pub heaviest_stays : (n r : ℕ) → Heaviest n parts r → at parts n ≤ at parts r → Heaviest (n + 1) parts r
-  heaviest_stays n r h l =
-      record {
-        inside = omega (arith, h.inside);
-        top = λ i q. ⊎_elim (λ (e : i ≡ n). rw e l) (λ (p : i < n). h.top i p) (last? i n q);
-      }
+  module _ (n r : ℕ) (h : Heaviest (max 1 n) parts r) where
+    pub heaviest_next : at parts r < at parts n → Heaviest (max 1 (n + 1)) parts n
+    heaviest_next l =
+        record {
+          inside = omega arith;
+          top = λ i q. ⊎_elim (λ (e : i ≡ n). rw e (le_refl _)) (λ (p : i < n). le_trans (h.top i (omega arith)) (le_of_lt l)) (last? i n q);
+        }
+
+    pub heaviest_stays : at parts n ≤ at parts r → Heaviest (max 1 (n + 1)) parts r
+    heaviest_stays l =
+        record {
+          inside = omega (arith, h.inside);
+          top = λ i q. ⊎_elim (λ (e : i ≡ n). rw e l) (λ (p : i < n). h.top i (omega arith)) (last? i n q);
+        }
+
+-- a heaviest of the first n is found among these alone
+pub heaviest_first_of : (parts : List ℕ) (n : ℕ) {m r : ℕ} → m ≡ n → m ≤ length parts → Heaviest (length (take m parts)) (take m parts) r → Heaviest n parts r
+heaviest_first_of parts n {m} {r} e l h = rw (← e) (record { inside = inside; top = λ i q. omega (arith, h.top i (rw long q), get_or-take m parts i 0 q, get_or-take m parts r 0 inside) })
+  where
+    long : length (take m parts) ≡ m
+    long = length-take-le m parts l
+
+    inside : r < m
+    inside = rw long at h.inside
 
 -- once the raised part is compared
 module _ {n part most : ℕ} {parts tree : List ℕ} (w : Was n part parts most tree) where

@@ -6,4 +6,4 @@
 pub mod grid;
 pub mod list;
 pub mod noted;
-pub mod row;
+pub mod numbers;

@@ -1,40 +1,25 @@
 // A list of indices.
-use crate::row;
-use crate::row::Limit;
-use console::faults::{NOTHING, full, note};
+use crate::numbers::{Limit, Numbers, read_line};
+use console::faults::{Faults, Wrong};
+use console::source::Lines;
 
-// Reads the indices of a text from `first` on, all on a line or the first `most`; how many there are. What is wrong is kept.
+// Reads the indices of the lines that are left of a text, the first `most` of each where not all are asked for. What is wrong is kept.
 pub fn read(
-    text: &[u8],
-    first: usize,
-    separator: u8,
+    lines: Lines<'_>,
     limit: Limit,
-    most: usize,
-    indices: &mut [u64; 65536],
-    faults: &mut [usize; 61],
-) -> usize
+    most: Option<usize>,
+    indices: &mut Numbers,
+    faults: &mut Faults,
+)
     ensures { Unit {0} }
 {
-    let mut count: usize = 0;
-    let mut at = first;
-    for _ in 0..text.len() {
-        if at < text.len() {
-            if !full(faults) {
-                let row = row::read(text, at, separator, limit, most, indices, count, faults);
-                count = std::num::wrapping_add_usize(count, least(row.numbers, most));
-                at = row.next;
-            }
+    for line in lines {
+        if faults.is_full() {
+            break;
         }
+        read_line(line, limit, most, indices, faults);
     }
-    if count == 0 {
-        note(faults, NOTHING, text.len(), text.len());
+    if indices.is_empty() {
+        faults.note_at(Wrong::Nothing, lines.source.text.len());
     }
-    count
-}
-
-fn least(a: usize, b: usize) -> usize {
-    if a < b {
-        return a;
-    }
-    b
 }

@@ -1,27 +1,23 @@
 -- A whole number out of a word. Assumes nothing.
-use Rattle.std.specs.Prelude.{ℕ, zero, suc, ◌+◌, ◌-◌, ◌*◌, List, get_or, length, Bool, not, ◌&&◌, cond, leb, ltb}
-use Rattle.wholes.specs.declared.Whole.{Whole}
-use Rattle.wholes.specs.declared.Whole.TheVariants.{Value, Odd, Large, Empty}
+use Rattle.std.specs.Prelude.{ℕ, ◌+◌, ◌-◌, ◌*◌, List, [], ◌∷◌, Bool, not, ◌&&◌, cond, leb, ltb, Result, Ok, Err}
+use Rattle.wholes.specs.declared.NotWhole.{NotWhole}
+use Rattle.wholes.specs.declared.NotWhole.TheVariants.{Odd, Large, Empty}
 
 -- 0 to 9
 abbrev pub is_digit : ℕ → Bool
 is_digit b = not (ltb b 48) && leb b 57
 
 -- a number with one byte more behind it, which stands at a place
-abbrev pub digit_on : ℕ → ℕ → ℕ → Whole
+abbrev pub digit_on : ℕ → ℕ → ℕ → Result ℕ NotWhole
 digit_on v b at =
-    cond (is_digit b) (cond (leb (10 * v + (b - 48)) 18446744073709551615) (Value (10 * v + (b - 48))) (Large at)) (Odd at)
+    cond (is_digit b) (cond (leb (10 * v + (b - 48)) 18446744073709551615) (Ok (10 * v + (b - 48))) (Err (Large at))) (Err (Odd at))
 
-unfoldable pub whole_step : Whole → ℕ → ℕ → Whole
-whole_step (Value v) b at = digit_on v b at
-whole_step Empty b at = digit_on 0 b at
-whole_step (Odd i) b at = Odd i
-whole_step (Large i) b at = Large i
+-- with all bytes more of a list, the first of which stands at a place
+abbrev pub digits_on : Result ℕ NotWhole → List ℕ → ℕ → Result ℕ NotWhole
+digits_on (Err e) bs at = Err e
+digits_on (Ok v) [] at = Ok v
+digits_on (Ok v) (b ∷ bs) at = digits_on (digit_on v b at) bs (at + 1)
 
--- the first n bytes of a word, and all of them
-unfoldable pub whole_to : List ℕ → ℕ → Whole
-whole_to w zero = Empty
-whole_to w (suc n) = whole_step (whole_to w n) (get_or w n 0) n
-
-unfoldable pub whole_of : List ℕ → Whole
-whole_of w = whole_to w (length w)
+abbrev pub whole_of : List ℕ → Result ℕ NotWhole
+whole_of [] = Err Empty
+whole_of (b ∷ bs) = digits_on (Ok 0) (b ∷ bs) 0

@@ -5,13 +5,12 @@
 #![tactic(auto)]
 
 ghost use Rattle.std.specs.Prelude.{◌≡◌};
-ghost use Rattle.wholes.specs.Wholes.{is_digit, digit_on, whole_step, whole_of};
+ghost use Rattle.wholes.specs.Wholes.{is_digit, digit_on, whole_of};
 
-// A word read as a whole number: its value, or the place of a byte that is no digit or of the digit that makes it too
-// large for 64 bits; no word at all has no digit.
-#[derive(Drop)]
-pub enum Whole {
-    Value(u64),
+// Why a word is no whole number: the place of a byte that is no digit, or of the digit that makes the number too large for
+// 64 bits; no word at all has no digit.
+#[derive(Clone, Copy, Debug, PartialEq, Eq)]
+pub enum NotWhole {
     Odd(usize),
     Large(usize),
     Empty,
@@ -21,48 +20,34 @@ pub enum Whole {
 pub fn is_digit(b: u8) -> bool
     ensures { result ≡ is_digit b }
 {
-    if b < b'0' {
-        return false;
-    }
-    b <= b'9'
+    matches!(b, b'0'..=b'9')
 }
 
-// A number with one byte more behind it.
-fn digit_on(value: u64, b: u8, at: usize) -> Whole
+// A number with one byte more behind it. exponents, decimal_steps and decimals write `10 * n + digit` out too: limit, type and
+// refusal differ, and the sum alone is shorter than a call.
+fn digit_on(value: u64, b: u8, at: usize) -> Result<u64, NotWhole>
     ensures { result ≡ digit_on value b at }
 {
     if !is_digit(b) {
-        return Whole::Odd(at);
+        return Err(NotWhole::Odd(at));
     }
     let d = (b - b'0') as u64;
-    if (18446744073709551615 - d) / 10 < value {
-        return Whole::Large(at);
+    if (u64::MAX - d) / 10 < value {
+        return Err(NotWhole::Large(at));
     }
-    Whole::Value(10 * value + d)
-}
-
-#[tactic(auto, unfolding(crate::specs::Wholes::whole_step))]
-fn step(met: Whole, b: u8, at: usize) -> Whole
-    ensures { result ≡ whole_step met b at }
-{
-    match met {
-        Whole::Value(value) => digit_on(value, b, at),
-        Whole::Empty => digit_on(0, b, at),
-        Whole::Odd(i) => Whole::Odd(i),
-        Whole::Large(i) => Whole::Large(i),
-    }
+    Ok(10 * value + d)
 }
 
 // The word's value, or where it is wrong.
-#[tactic(auto, unfolding(crate::specs::Wholes::whole_to, crate::specs::Wholes::whole_of))]
-pub fn whole_of(word: &[u8]) -> Whole
+pub fn whole_of(word: &[u8]) -> Result<u64, NotWhole>
     ensures { result ≡ whole_of word.now }
 {
-    let mut met = Whole::Empty;
-    let mut i: usize = 0;
-    while i < word.len() {
-        met = step(met, word[i], i);
-        i += 1;
+    if word.is_empty() {
+        return Err(NotWhole::Empty);
     }
-    met
+    let mut value = 0;
+    for (i, b) in word.iter().enumerate() {
+        value = digit_on(value, *b, i)?;
+    }
+    Ok(value)
 }

@@ -1,3 +1,4 @@
-pub mod Carry
-pub mod Powers
+mod Carry
+mod Powers
+mod Order
 pub mod Once

@@ -1,82 +1,77 @@
-// Whole numbers below 2^168, in three limbs of 56 bits, so that a limb times a byte fits a u64, inside: `bounds` calls it.
-//
-//   lo, mid, hi   worth lo + 2^56 * (mid + 2^56 * hi), each below 2^56
+// Whole numbers below 2^168, in three limbs of 56 bits, so that a limb times a byte fits a u64, inside: `bounds` calls it. In contracts
+// such a number is its value.
 #![tactic(auto)]
 
-ghost use Rattle.std.specs.Prelude.{◌≡◌, ◌*◌, ◌^◌, ◌<◌, leb};
-ghost use Rattle.wide.specs.Value.{value, Limbs, Holds, room};
+ghost use Rattle.std.specs.Prelude.{◌≡◌, ℕ, ◌*◌, ◌^◌, ◌<◌, leb};
+ghost use Rattle.wide.specs.Value.{value, room, Limbs};
+
+use std::marker::Model;
 
 const LIMB: u64 = 72057594037927936;
 
+// Worth lo + 2^56 * (mid + 2^56 * hi), each limb below 2^56.
 #[derive(Drop)]
 pub struct Wide {
-    pub lo: u64,
-    pub mid: u64,
-    pub hi: u64,
+    hi: u64,
+    mid: u64,
+    lo: u64,
 }
 
-// A u64 as a wide number.
-pub fn of(x: u64) -> Wide
-    ensures { Holds result x }
-{
-    Wide {
-        lo: x % LIMB,
-        mid: x / LIMB,
-        hi: 0,
-    }
+impl Model for Wide {
+    ghost Value = { ℕ };
+
+    ghost view = { λ a. value a.hi a.mid a.lo };
+
+    ghost invariant = { λ a. Limbs a.hi a.mid a.lo };
 }
 
-// A wide number times a byte.
-fn times(a: Wide, s: u64) -> Wide
-    requires limbs { Limbs a }
-    requires s_bound { s < 256 }
-    requires s_bound_2 { value a * s < room }
-    ensures { Holds result (value a * s) }
-{
-    let x = a.lo * s;
-    let y = a.mid * s + x / LIMB;
-    let z = a.hi * s + y / LIMB;
-    Wide {
-        lo: x % LIMB,
-        mid: y % LIMB,
-        hi: z,
+impl From<u64> for Wide {
+    ghost from_gives = { λ x wide. wide ≡ x };
+
+    fn from(x: u64) -> Wide {
+        Wide {
+            hi: 0,
+            mid: x / LIMB,
+            lo: x % LIMB,
+        }
     }
 }
 
-// A wide number times a power of a byte.
-pub fn scaled(a: Wide, s: u64, n: u32) -> Wide
-    requires limbs { Limbs a }
-    requires s_nonzero { (0 < s) × (s < 256) }
-    requires n_bound { value a * s ^ n < room }
-    ensures { Holds result (value a * s ^ n) }
-{
-    let mut r = a;
-    for i in 0..n {
-        r = times(r, s);
+impl Wide {
+    // Times a byte.
+    fn times(self, s: u64) -> Wide
+        requires s_bound { s < 256 }
+        requires fits { self * s < room }
+        ensures { result ≡ self * s }
+    {
+        let x = self.lo * s;
+        let y = self.mid * s + x / LIMB;
+        let z = self.hi * s + y / LIMB;
+        Wide {
+            hi: z,
+            mid: y % LIMB,
+            lo: x % LIMB,
+        }
     }
-    r
-}
 
-// Whether a wide number is at most another.
-pub fn at_most(a: Wide, b: Wide) -> bool
-    requires limbs { Limbs a }
-    requires limbs_2 { Limbs b }
-    ensures { result ≡ leb (value a) (value b) }
-{
-    if a.hi < b.hi {
-        return true;
+    // Times a power of a byte.
+    pub fn scaled(self, s: u64, n: u32) -> Wide
+        requires s_nonzero { (0 < s) × (s < 256) }
+        requires fits { self * s ^ n < room }
+        ensures { result ≡ self * s ^ n }
+    {
+        let mut r = self;
+        for i in 0..n {
+            r = r.times(s);
+        }
+        r
     }
-    if b.hi < a.hi {
-        return false;
+
+    // Whether it is at most another: by the first limb from the top that differs. A derived order would compare as this does, but its
+    // contract would be of the limbs, and this one is of the value.
+    pub fn at_most(&self, other: &Wide) -> bool
+        ensures { result ≡ leb self.now other.now }
+    {
+        (self.hi, self.mid, self.lo) <= (other.hi, other.mid, other.lo)
     }
-    if a.mid < b.mid {
-        return true;
-    }
-    if b.mid < a.mid {
-        return false;
-    }
-    if b.lo < a.lo {
-        return false;
-    }
-    true
 }

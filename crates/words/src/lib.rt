@@ -1,153 +1,116 @@
-// The words of a command: bytes in which each word ends with a line's end, so that a name may have spaces. Behind the last word
-// stand zeros. And how a command ended (`status`).
+// The words of a command, and telling the script how the command ended (`status`).
 //
 // Every function is proved safe, and to end; what is written no contract can say, and the gate compares it.
 #![tactic(auto)]
 
 pub mod status;
 
-ghost use Rattle.std.specs.Prelude.{◌≡◌, T, ◌≤◌, length, IfSome};
+ghost use Rattle.std.specs.Prelude.{◌≤◌, T, length, IfSome};
 
+use arrayvec::ArrayVec;
 use std::env::{Env, FillError};
 use std::rt::HostRuntime;
+use wholes::whole_of;
 
-// Where word `i` starts, or the end of the bytes where there are fewer.
-fn start_of(line: &[u8], i: usize) -> usize
-    ensures { result ≤ length line.now }
-{
-    let mut left = i;
-    let mut at: usize = 0;
-    while at < line.len() {
-        if left == 0 {
-            return at;
+// Words of 4,096 bytes in all, each with a line's end behind it, so that a word may have spaces. What has no room is left out. One text, and no
+// list of words: there is no heap, and no limit on their number.
+#[derive(Drop)]
+pub struct Words {
+    bytes: ArrayVec<u8, 4096>,
+}
+
+impl Words {
+    fn none() -> Words {
+        Words {
+            bytes: ArrayVec::new(),
         }
-        if line[at] == b'\n' {
-            left -= 1;
+    }
+
+    // The words that the program was started with.
+    pub fn of_program(rt: HostRuntime) -> Words
+        ensures { Unit {0} }
+    {
+        let mut words = Words::none();
+        // By number: std's list of them wants a heap.
+        for i in 1..usize::MAX {
+            let mut room = io::buffer();
+            let Some(size) = argument(rt, i, &mut room) else {
+                break;
+            };
+            words.append(&room[..size]);
         }
-        at += 1;
+        words
     }
-    at
-}
 
-// Where the word that starts at `start` ends.
-fn end_of(line: &[u8], start: usize) -> usize
-    requires { start ≤ length line.now }
-    ensures { (start ≤ result) × (result ≤ length line.now) }
-{
-    let mut at = start;
-    while at < line.len() {
-        let b = line[at];
-        if b == b'\n' {
-            return at;
+    // The words of a text, which spaces part.
+    pub fn parted(text: &[u8]) -> Words
+        ensures { Unit {0} }
+    {
+        let mut words = Words::none();
+        for word in text.split(|b| *b == b' ') {
+            words.append(word);
         }
-        if b == 0 {
-            return at;
+        words
+    }
+
+    fn append(&mut self, word: &[u8]) {
+        let ended = word.iter().chain(b"\n").copied();
+        let _ = self.bytes.extend(ended);
+    }
+
+    // Word `i`, counted from 0, up to a byte that is nought; empty where there are fewer.
+    pub fn word(&self, i: usize) -> &[u8]
+        ensures { length result.now ≤ 4096 }
+    {
+        let mut lines = self.bytes.as_slice().split(|b| *b == b'\n');
+        let line = lines.nth(i).unwrap_or(b"");
+        let word = line.split(|b| *b == 0).next().unwrap_or(b"");
+        // It is no longer than all words are; that a piece of a split is no longer than the whole, its contract does not say.
+        &word[..word.len().min(4096)]
+    }
+
+    // Whether word `i` is this one.
+    pub fn is(&self, i: usize, what: &str) -> bool
+        ensures { T result → length what.now ≤ 4096 }
+    {
+        self.word(i) == what.as_bytes()
+    }
+
+    // Whether word `i` is one that was not asked for.
+    pub fn is_empty(&self, i: usize) -> bool
+        ensures { Unit {0} }
+    {
+        self.word(i).is_empty()
+    }
+
+    // The number that word `i` is, where it is one that fits.
+    pub fn number(&self, i: usize) -> Option<u32>
+        ensures { Unit {0} }
+    {
+        let n = whole_of(self.word(i)).ok()?;
+        u32::try_from(n).ok()
+    }
+
+    // The number that word `i` is; where it is none that fits, the largest, which no call takes for an order, a depth, a count, an edition or an axis.
+    pub fn number_or_refused(&self, i: usize) -> u32
+        ensures { Unit {0} }
+    {
+        self.number(i).unwrap_or(u32::MAX)
+    }
+
+    // The same, and a default where word `i` was not asked for.
+    pub fn number_or(&self, i: usize, default: u32) -> u32
+        ensures { Unit {0} }
+    {
+        if self.is_empty(i) {
+            return default;
         }
-        at += 1;
+        self.number_or_refused(i)
     }
-    at
 }
 
-// Word `i`, empty where there are fewer.
-pub fn word(line: &[u8], i: usize) -> &[u8]
-    ensures { length result.now ≤ length line.now }
-{
-    let start = start_of(line, i);
-    let end = end_of(line, start);
-    &line[start..end]
-}
-
-// How many words there are.
-pub fn count(line: &[u8]) -> usize
-    ensures { result ≤ length line.now }
-{
-    let mut n: usize = 0;
-    let mut at: usize = 0;
-    while at < line.len() {
-        if line[at] == b'\n' {
-            n += 1;
-        }
-        at += 1;
-    }
-    n
-}
-
-// Whether two runs of bytes are the same.
-pub fn same(a: &[u8], b: &[u8]) -> bool
-    ensures { T result → a.now ≡ b.now }
-{
-    if a.len() != b.len() {
-        return false;
-    }
-    let mut i: usize = 0;
-    while i < a.len() {
-        if a[i] != b[i] {
-            return false;
-        }
-        i += 1;
-    }
-    true
-}
-
-// Whether word `i` is this one.
-pub fn is(line: &[u8], i: usize, what: &[u8]) -> bool
-    ensures { T result → length what.now ≤ length line.now }
-{
-    same(word(line, i), what)
-}
-
-// The place of word `i` among words of the same form, or how many those are where it is none of them.
-pub fn place(line: &[u8], i: usize, among: &[u8]) -> usize
-    ensures { result ≤ length among.now }
-{
-    let what = word(line, i);
-    let n = count(among);
-    let mut k: usize = 0;
-    while k < n {
-        if is(among, k, what) {
-            return k;
-        }
-        k += 1;
-    }
-    k
-}
-
-// The number that a word is; the largest, which every call refuses, where it is none that fits.
-pub fn number_of(word: &[u8]) -> u32
-    ensures { Unit {0} }
-{
-    let met = wholes::whole_of(word);
-    let wholes::Whole::Value(n) = met else {
-        return 4294967295;
-    };
-    if n <= 4294967295 {
-        return n as u32;
-    }
-    4294967295
-}
-
-// Puts a byte at `at`, where there is room; the place after it.
-fn put(line: &mut [u8; 4096], at: usize, b: u8) -> usize {
-    if at < 4096 {
-        line[at] = b;
-        return at + 1;
-    }
-    at
-}
-
-// Puts a word behind the first `n` bytes of a line, and a line's end behind it. How many bytes the line has then; what has no room
-// is left out.
-fn append(line: &mut [u8; 4096], n: usize, what: &[u8]) -> usize {
-    let mut next = n;
-    let mut i: usize = 0;
-    while i < what.len() {
-        next = put(line, next, what[i]);
-        i += 1;
-    }
-    put(line, next, b'\n')
-}
-
-// Puts argument `i` at the start of the room; how many bytes it has, none where it has no room. `None` behind the last argument.
+// Puts argument `i` at the start of the room; how many bytes it has, none where it has no room, so that the words behind it keep their places.
+// `None` behind the last argument.
 pub fn argument(rt: HostRuntime, i: usize, room: &mut [u8; 4096]) -> Option<usize>
     ensures { IfSome result (λ n. n ≤ 4096) }
 {
@@ -156,48 +119,4 @@ pub fn argument(rt: HostRuntime, i: usize, room: &mut [u8; 4096]) -> Option<usiz
         Err(FillError::TooLong) => Some(0),
         Err(FillError::NotPresent) => None,
     }
-}
-
-// Puts argument `i` behind the first `n` bytes of the line; how many bytes the line has then. `None` behind the last argument.
-fn with_argument(rt: HostRuntime, line: &mut [u8; 4096], n: usize, i: usize) -> Option<usize> {
-    let mut buffer = io::buffer();
-    match argument(rt, i, &mut buffer) {
-        Some(size) => Some(append(line, n, &buffer[..size])),
-        None => None,
-    }
-}
-
-// Puts the words that the program was started with into a line of zeros; how many bytes they take.
-pub fn arguments(rt: HostRuntime, line: &mut [u8; 4096]) -> usize
-    ensures { Unit {0} }
-{
-    let mut n: usize = 0;
-    for i in 1..usize::MAX {
-        let Some(next) = with_argument(rt, line, n, i) else {
-            return n;
-        };
-        n = next;
-    }
-    n
-}
-
-// Puts the words of a text, which spaces part, into a line of zeros; how many bytes they take.
-pub fn parted(line: &mut [u8; 4096], what: &[u8]) -> usize
-    ensures { Unit {0} }
-{
-    let mut next: usize = 0;
-    let mut i: usize = 0;
-    while i < what.len() {
-        next = put(line, next, line_end_for_space(what[i]));
-        i += 1;
-    }
-    put(line, next, b'\n')
-}
-
-// A byte of a text as it stands in a line of words.
-fn line_end_for_space(b: u8) -> u8 {
-    if b == b' ' {
-        return b'\n';
-    }
-    b
 }

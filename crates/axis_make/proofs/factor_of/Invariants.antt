@@ -10,7 +10,13 @@ use Rattle.axis_laws.proofs.StepPattern.{last}
 use Rattle.axis_make.proofs.factor_of.Given as goal
 
 abbrev pub invariant-loop-f : goal.invariant-loop-f
-invariant-loop-f l = (T (positive l.n)) × (T (positive l.width)) × (T (fits binary64 l.f)) × (to_bits binary64 l.f ≤ last) × (descend_from l.n l.width l.f ≡ descend_from l.n l.width l.initial.f)
+invariant-loop-f l = record {
+  n_positive : T (positive l.n);
+  width_positive : T (positive l.width);
+  f_fits : T (fits binary64 l.f);
+  f_bound : to_bits binary64 l.f ≤ last;
+  descends : descend_from l.n l.width l.f ≡ descend_from l.n l.width l.initial.f;
+}
 
 abbrev pub decreases-loop-f : goal.decreases-loop-f
 decreases-loop-f l = to_bits binary64 l.f

@@ -3,11 +3,13 @@
 use Prim.Native.Nat.{◌≤◌, ◌<◌, ◌+◌, ◌*◌, ◌/◌, ◌%◌, ◌^◌}
 use mathlib.Core.Path.{◌≡◌}
 use Rattle.rules.specs.Curve.{level, encode, space}
+use Rattle.curve_laws.proofs.OnTop.{on_top}
 use Rattle.encoding_3d.proofs.walk_3d.Given as goal
 
-abbrev pub invariant-loop-left : goal.invariant-loop-left
-invariant-loop-left l = (l.left ≤ l.order) × (l.config % 8 ≡ 0) × (l.config < 96)
-    × (l.hilbert * 2 ^ (3 * l.left) + encode space l.left (l.config / 8) (λ k. level 3 k l.zorder) ≡ encode space l.order 0 (λ k. level 3 k l.zorder))
-
-abbrev pub decreases-loop-left : goal.decreases-loop-left
-decreases-loop-left l = l.left
+abbrev pub invariant-loop-level : goal.invariant-loop-level
+invariant-loop-level l = record {
+  within : l._level ≤ l.order;
+  config_is : (l.config % 8 ≡ 0) × (l.config < 96);
+  rest : l.octants ≡ on_top 3 l._level l.zorder;
+  done : l.hilbert * 2 ^ (3 * l._level) + encode space l._level (l.config / 8) (λ k. level 3 k l.zorder) ≡ encode space l.order 0 (λ k. level 3 k l.zorder);
+}

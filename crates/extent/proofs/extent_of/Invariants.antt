@@ -1,11 +1,8 @@
--- Widening the extent by the points from i on gives the extent of them all. Assumes nothing.
-use Rattle.std.proofs.Common.{length, ◌-◌, ◌≡◌}
-use lib.ListN.{drop}
-use Rattle.rules.specs.Axis.{widen_all, extent_of}
+-- The extent is the first point, widened by the points so far. Assumes nothing.
+use Rattle.std.proofs.Common.{◌≡◌, take}
+use Rattle.std.specs.Prelude.{fold}
+use Rattle.rules.specs.Axis.{widen}
 use Rattle.extent.proofs.extent_of.Given as goal
 
-abbrev pub invariant-loop-i : goal.invariant-loop-i
-invariant-loop-i l = widen_all l.extent (drop l.i l.xs) ≡ extent_of l.xs
-
-abbrev pub decreases-loop-i : goal.decreases-loop-i
-decreases-loop-i l = length l.xs - l.i
+abbrev pub invariant-loop-x : goal.invariant-loop-x
+invariant-loop-x l = l.extent ≡ fold widen l.initial.extent (take l.x-index l.others)

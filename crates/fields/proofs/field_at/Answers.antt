@@ -1,14 +1,12 @@
--- Plain bytes up to a separator or a line's end are a field, a line's end at once is one.
+-- Plain bytes up to a separator or a line's end are a field.
 use Rattle.std.proofs.Common.{arith}
-use Rattle.fields.proofs.Plain.{plain_word, line_ends, separator_ends, line_end_at_once}
+use Rattle.fields.proofs.Plain.{plain_word, plain_counted, line_ends, separator_ends}
 use Rattle.fields.proofs.field_at.Goals as goal
 
-pub returns-then-at-end : goal.returns-then-at-end
-returns-then-at-end c = plain_word _ _ _ _ _ c.if-at-end.true (omega arith) c.plain_to-end.ensures (line_ends _ _ _ _ c.if-b-eq10.true)
+pub returns-in-10 : goal.returns-in-10
+returns-in-10 c =
+    plain_word _ _ c.args.at _ _ c.if-at-end.true (omega arith) (plain_counted _ _ c.args.at _ c.if-text-end.false (rw c.rest_of.ensures at c.plain_bytes.ensures)) (line_ends _ _ _ _ c.in-10.is)
 
-pub returns-then-b-eq10 : goal.returns-then-b-eq10
-returns-then-b-eq10 c = line_end_at_once _ _ _ _ c.plain_to-end.ensures.0 (omega arith) (omega arith) c.if-b-eq10.true
-
-pub returns-then-b-separator : goal.returns-then-b-separator
-returns-then-b-separator c =
-    plain_word _ _ _ _ _ c.if-at-end-2.true (omega arith) c.plain_to-end.ensures (separator_ends _ _ _ _ c.if-b-eq10.false c.if-b-separator.true)
+pub returns-in_default : goal.returns-in_default
+returns-in_default c =
+    plain_word _ _ c.args.at _ _ (omega arith) (omega arith) (plain_counted _ _ c.args.at _ c.if-text-end.false (rw c.rest_of.ensures at c.plain_bytes.ensures)) (separator_ends _ _ _ _ (λ e. omega arith) c.if-b-separator.true)

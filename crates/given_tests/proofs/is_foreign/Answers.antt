@@ -15,17 +15,9 @@ pub returns-then-made_up : goal.returns-then-made_up
 unfolding foreign
 returns-then-made_up c = record { value = rw (sym c.made_up.ensures ∙ c.if-made_up.true); order_value = λ e. absurd (true≢false e) }
 
-pub returns-in-Flat : goal.returns-in-Flat
-returns-in-Flat c =
+pub returns : goal.returns
+returns c =
     let not_up : made_up c.args.axis ≡ false = sym c.made_up.ensures ∙ c.if-made_up.false in
-    let is = c.in-Flat.is in
-    let both = foreign_by_order _ c.args.order _ not_up (subst (λ (a : Axis). T (in_format a)) (sym is) tt) (ap order_of is) in
-    record { value = both.0; order_value = both.1 }
-
-pub returns-in-Sloped : goal.returns-in-Sloped
-returns-in-Sloped c =
-    let not_up : made_up c.args.axis ≡ false = sym c.made_up.ensures ∙ c.if-made_up.false in
-    let is = c.in-Sloped.is in
-    let f64 : T (fits binary64 _) = search rules in
-    let both = foreign_by_order _ c.args.order _ not_up (subst (λ (a : Axis). T (in_format a)) (sym is) f64) (ap order_of is) in
+    let f64s : T (in_format c.args.axis) = search rules in
+    let both = foreign_by_order _ c.args.order _ not_up f64s (sym c.order_of.ensures) in
     record { value = both.0; order_value = both.1 }

@@ -7,11 +7,12 @@ use Rattle.ids.proofs.write_row.Goals as goal
 
 pub loop-x-init : goal.loop-x-init
 unfolding list
-loop-x-init c = refl
+loop-x-init g c = refl
 
 pub loop-x-preserved : goal.loop-x-preserved
 unfolding id_on
-loop-x-preserved c =
+loop-x-preserved g c =
     let a = c.args in
+    let h = a.halving.now in
     rw (c.loop-x.invariant, c.part_of.ensures)
-    (list_more (λ x. id_on a.splits.now a.n a.depth a.first x a.y a.z) a.row.now c.loop-x.x (omega arith))
+    (list_more (λ x. id_on a.splits.now g.row.AXES h.depth h.first x a.y a.z) a.row.now c.loop-x.x (omega arith))

@@ -1,9 +1,7 @@
--- The nodes after the one that is next are worked out.
+-- The nodes from the one that was last on are worked out.
+use Rattle.std.proofs.Common.{◌-◌}
 use Rattle.lightest.proofs.Making.{Made}
 use Rattle.lightest.proofs.make.Given as goal
 
-abbrev pub invariant-loop-next : goal.invariant-loop-next
-invariant-loop-next l = Made l.leaves l.parts l.tree l.next
-
-abbrev pub decreases-loop-next : goal.decreases-loop-next
-decreases-loop-next l = l.next
+abbrev pub invariant-loop-node : goal.invariant-loop-node
+invariant-loop-node l = Made l.leaves l.parts l.tree (l.node - 1)

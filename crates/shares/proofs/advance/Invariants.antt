@@ -4,7 +4,4 @@ use Rattle.shares.proofs.Reached.{Reached}
 use Rattle.shares.proofs.advance.Given as goal
 
 abbrev pub invariant-loop-r : goal.invariant-loop-r
-invariant-loop-r l = Reached l.k l.n l.all l.sum l.have l.r
-
-abbrev pub decreases-loop-r : goal.decreases-loop-r
-decreases-loop-r l = l.n - l.r
+invariant-loop-r l = Reached l.k l.n l.all l.sum l.have (l.r - 1)

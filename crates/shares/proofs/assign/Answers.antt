@@ -27,8 +27,8 @@ bounds-order-0 c = omega (arith, as_long _ _ c.requires.order_value, c.requires.
 pub bounds-indices-order : goal.bounds-indices-order
 bounds-indices-order c = point-fits _ _ c.requires.order_value 0 c.requires.accepted.points
 
-pub loop-j-init : goal.loop-j-init
-loop-j-init c =
+pub loop-place-init : goal.loop-place-init
+loop-place-init c =
     let a = c.args in
     let r = c.requires in
     rw (ap (λ (l : List ℕ). at a.indices.now (at l 0)) r.order_value) (begin a.n a.indices.now a.weights.now a.parts.now r.accepted.points r.parts_len)
@@ -36,45 +36,45 @@ loop-j-init c =
 pub bounds-indices-point : goal.bounds-indices-point
 bounds-indices-point c =
     let o = c.requires.order_value in
-    let l : c.loop-j.j < length c.args.indices.now = omega (arith, as_long _ _ o) in
-    point-fits _ _ o c.loop-j.j l
+    let l : c.loop-place.place-index < length c.args.indices.now = omega (arith, as_long _ _ o) in
+    point-fits _ _ o c.loop-place.place-index l
 
 pub advance-k-requires-clause-k_lt_n : goal.advance-k-requires-clause-k_lt_n
-advance-k-requires-clause-k_lt_n c = let a = c.requires.accepted in (part_below _ _ _ a c.loop-j.invariant, a.few)
+advance-k-requires-clause-k_lt_n c = let a = c.requires.accepted in (part_below _ _ _ a c.loop-place.invariant, a.few)
 
 pub advance-k-requires-clause-all_le_top_all : goal.advance-k-requires-clause-all_le_top_all
 advance-k-requires-clause-all_le_top_all c =
     let a = c.requires.accepted in
-    let l : c.loop-j.j < length c.args.indices.now = omega (arith, as_long _ _ c.requires.order_value) in
-    (omega (arith, all-is c.args.indices.now _ _ c.weigh-all.ensures a.weights_long, all_bound _ _ _ a), sum_bound _ _ _ a c.loop-j.invariant (omega arith))
+    let l : c.loop-place.place-index < length c.args.indices.now = omega (arith, as_long _ _ c.requires.order_value) in
+    (omega (arith, all-is c.args.indices.now _ _ c.weigh-all.ensures a.weights_long, all_bound _ _ _ a), sum_bound _ _ _ a c.loop-place.invariant (omega arith))
 
 pub bounds-parts-point : goal.bounds-parts-point
 bounds-parts-point c =
     let o = c.requires.order_value in
-    let l : c.loop-j.j < length c.args.indices.now = omega (arith, as_long _ _ o) in
-    omega (arith, point-fits _ _ o c.loop-j.j l, c.loop-j.invariant.long)
+    let l : c.loop-place.place-index < length c.args.indices.now = omega (arith, as_long _ _ o) in
+    omega (arith, point-fits _ _ o c.loop-place.place-index l, c.loop-place.invariant.long)
 
 pub bounds-weights-point : goal.bounds-weights-point
 bounds-weights-point c =
     let o = c.requires.order_value in
-    let l : c.loop-j.j < length c.args.indices.now = omega (arith, as_long _ _ o) in
-    omega (arith, point-fits _ _ o c.loop-j.j l, c.requires.accepted.weights_long)
+    let l : c.loop-place.place-index < length c.args.indices.now = omega (arith, as_long _ _ o) in
+    omega (arith, point-fits _ _ o c.loop-place.place-index l, c.requires.accepted.weights_long)
 
 pub overflow_add-sum : goal.overflow_add-sum
 overflow_add-sum c =
     let a = c.requires.accepted in
-    let v = c.loop-j.invariant in
+    let v = c.loop-place.invariant in
     let o = c.requires.order_value in
-    let l : c.loop-j.j < length c.args.indices.now = omega (arith, as_long _ _ o) in
-    omega (arith, sum_bound _ _ _ a v (omega arith), rw (← point-is _ _ o c.loop-j.j) at (weight_light _ _ _ a v l))
+    let l : c.loop-place.place-index < length c.args.indices.now = omega (arith, as_long _ _ o) in
+    omega (arith, sum_bound _ _ _ a v (omega arith), rw (← point-is _ _ o c.loop-place.place-index) at (weight_light _ _ _ a v l))
 
-pub loop-j-preserved : goal.loop-j-preserved
-loop-j-preserved c =
+pub loop-place-preserved : goal.loop-place-preserved
+loop-place-preserved c =
     let a = c.args in
-    let v = c.loop-j.invariant in
+    let v = c.loop-place.invariant in
     let o = c.requires.order_value in
-    let l : c.loop-j.j < length a.indices.now = omega (arith, as_long _ _ o) in
-    let p = point-is _ _ o c.loop-j.j in
+    let l : c.loop-place.place-index < length a.indices.now = omega (arith, as_long _ _ o) in
+    let p = point-is _ _ o c.loop-place.place-index in
     let x = ap (at a.indices.now) p in
     step _ _ _ v l p x (ap (at a.weights.now) p)
     (elim c.if-last-index.branch [
@@ -83,4 +83,4 @@ loop-j-preserved c =
     ])
 
 pub returns : goal.returns
-returns c = finished _ _ _ c.loop-j.invariant (omega (arith, as_long _ _ c.requires.order_value))
+returns c = finished _ _ _ c.loop-place.invariant (omega (arith, as_long _ _ c.requires.order_value))

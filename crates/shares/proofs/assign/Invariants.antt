@@ -2,5 +2,5 @@
 use Rattle.parts_laws.proofs.Passing.{Passed}
 use Rattle.shares.proofs.assign.Given as goal
 
-abbrev pub invariant-loop-j : goal.invariant-loop-j
-invariant-loop-j l = Passed l.n l.indices l.weights l.parts l.sum l.k l.last l.j
+abbrev pub invariant-loop-place : goal.invariant-loop-place
+invariant-loop-place l = Passed l.n l.indices l.weights l.parts l.sum l.k l.last l.place-index

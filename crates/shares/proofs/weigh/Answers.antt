@@ -1,14 +1,10 @@
--- The next weight is light.
-use Rattle.std.proofs.Common.{refl, arith, rules}
-use Rattle.rules.specs.Sums.{total}
-use Rattle.requests.specs.Order.{at}
-use Rattle.laws.proofs.Totals.{total_more}
+-- Light weights have a sum that fits.
+use Rattle.std.proofs.Common.{◌≡◌, ◌<◌, ◌^◌, ◌∙◌, sum, rules}
+use Rattle.shares.proofs.Weights.{sum_is_total, sum_fits}
 use Rattle.shares.proofs.weigh.Goals as goal
 
-pub loop-i-init : goal.loop-i-init
-unfolding total
-loop-i-init c = (refl, search rules)
+pub sum-requires-clause-fits : goal.sum-requires-clause-fits
+sum-requires-clause-fits c = let fits : sum c.args.weights.now < 2 ^ 64 = sum_fits _ c.requires in search rules
 
-pub loop-i-preserved : goal.loop-i-preserved
-loop-i-preserved c =
-    (omega (arith, total_more (at c.args.weights.now) c.loop-i.i), omega (arith, c.requires.light c.loop-i.i (omega arith)))
+pub returns : goal.returns
+returns c = let is : c.sum.result ≡ sum c.args.weights.now = search rules in is ∙ sum_is_total _

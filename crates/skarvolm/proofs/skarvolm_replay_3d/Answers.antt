@@ -1,5 +1,9 @@
 -- `skarvolm_replay_3d` meets its contract: it hands its call on, with edition 2.
+use Rattle.std.proofs.Common.{◌∙◌}
+use Rattle.skarvolm.proofs.Numbers.{stands_for}
 use Rattle.skarvolm.proofs.skarvolm_replay_3d.Goals as goal
 
 pub returns : goal.returns
-returns c = c.replay_3d.ensures
+returns c =
+    let e = c.replay_3d.ensures in
+    record { number = stands_for _ _ c.refusal_of.ensures ∙ e.number; weights = e.weights; answers = e.answers; splits = e.splits; ids = e.ids }

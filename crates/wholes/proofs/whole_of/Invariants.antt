@@ -1,10 +1,7 @@
--- After i bytes the number is that of the first i bytes.
-use Rattle.std.proofs.Common.{length, ◌-◌, ◌≡◌, ◌≤◌}
-use Rattle.wholes.specs.Wholes.{whole_to}
+-- The bytes from i on are still to be read behind the number of those before.
+use Rattle.std.proofs.Common.{◌≡◌, drop, Ok}
+use Rattle.wholes.specs.Wholes.{digits_on}
 use Rattle.wholes.proofs.whole_of.Given as goal
 
 abbrev pub invariant-loop-i : goal.invariant-loop-i
-invariant-loop-i l = (l.i ≤ length l.word) × (l.met ≡ whole_to l.word l.i)
-
-abbrev pub decreases-loop-i : goal.decreases-loop-i
-decreases-loop-i l = length l.word - l.i
+invariant-loop-i l = digits_on (Ok l.value) (drop l.i l.word) l.i ≡ digits_on (Ok 0) l.word 0

@@ -1,2 +1,0 @@
-pub mod Axes
-pub mod Once
