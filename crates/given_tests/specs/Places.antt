@@ -12,6 +12,10 @@ first_place (t ∷ ts) = refuse t.passes 0 (suc (first_place ts))
 abbrev pub place : ℕ → List Given → ℕ
 place order axes = first_place (asked_of axes (questions order))
 
+-- of one axis
+abbrev pub place_of : Given → ℕ → ℕ
+place_of g order = place order (g ∷ [])
+
 -- the questions' numbers in order (proofs/Places.antt, `number_at_the_earliest`), and the one at a place; 0 behind the last
 abbrev pub question_numbers : List ℕ
 question_numbers = 6 ∷ 8 ∷ 7 ∷ 8 ∷ 6 ∷ 8 ∷ []

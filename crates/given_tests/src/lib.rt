@@ -7,17 +7,19 @@
 //   Value     a coordinate is unfit
 //   Outside   a coordinate lies outside low to high
 //
-// A call asks each question of all axes before the next, so that its refusal is that of the earliest question that passes of some axis
-// (proofs/Places.antt, `number_at_the_earliest`). Axes of which none passes take their points (specs/Takes.antt of points).
+// A call asks each question of all axes before the next, so that its refusal is that of the earliest question that passes of some axis: the
+// least of the places of the axes, each taken alone (proofs/Places.antt, `number_at_the_earliest`, `place_of_more`). Axes of which none passes take
+// their points (specs/Takes.antt of points).
 #![tactic(auto)]
 
 ghost use Rattle.std.specs.Prelude.{◌≡◌, ◌∷◌, [], false, map, All, length, Ok};
 ghost use Rattle.rules.specs.Sums.{any};
-ghost use Rattle.rules.specs.Refusals.{value_unfit, reversed, axis_thin, outside, answer_by};
+ghost use Rattle.rules.specs.Refusals.{value_unfit, reversed, axis_thin, outside, answer_by, number_in};
 ghost use Rattle.rules.specs.Axis.{low_of, high_of, make_axis};
 ghost use Rattle.knots_given.specs.Given.{foreign, questions, asked_of};
 ghost use Rattle.points.specs.Cells.{Taken};
 ghost use Rattle.given_tests.specs.Placed.{given};
+ghost use Rattle.given_tests.specs.Places.{place, number_at_place};
 
 use axis_cell::{high_of, low_of, made_up, order_of};
 use axis_make::{thin, unfit};
@@ -85,6 +87,7 @@ fn points_outside(axes: &[Placed]) -> bool
 pub fn test_axes(axes: &[Placed], order: u32) -> Result<(), Refusal>
     ensures value { result ≡ answer_by (asked_of (map given axes.now) (questions order)) tt }
     ensures takes { result ≡ Ok tt → All (λ p. Taken (length p.points.now) order p) axes.now }
+    ensures earliest { number_in result ≡ number_at_place (place order (map given axes.now)) }
 {
     if ends_unfit(axes) {
         return Err(Refusal::Value);
