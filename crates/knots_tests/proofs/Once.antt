@@ -6,8 +6,13 @@ use Rattle.laws.proofs.Only.{Only, same}
 use Rattle.points.specs.declared.Points.{Ghosts}
 use Rattle.knots_tests.proofs.test_shape.Kinds as test-shape-kinds
 use Rattle.knots_tests.proofs.test_shape.Reads as test-shape-reads
+use Rattle.knots_tests.proofs.test_lengths.Kinds as test-lengths-kinds
+use Rattle.knots_tests.proofs.test_lengths.Reads as test-lengths-reads
 use Rattle.knots_tests.proofs.test_points.Kinds as test-points-kinds
 use Rattle.knots_tests.proofs.test_points.Reads as test-points-reads
+
+pub test_lengths_only : Only test-lengths-kinds.ps test-lengths-kinds.r test-lengths-reads.Post
+test_lengths_only κs a y z e f p q = same p q
 
 -- of whatever has points
 module _ (P : RattleType) (l : Laws P) (points : Ghosts P.Denot) (d : Dict) where

@@ -3,18 +3,18 @@ use Prim.Native.Nat.{ℕ, ◌≤◌, ◌<◌}
 use native.Mathlib.Nat.{pos_of_ne-zero}
 use native.Mathlib.Omega.{arith}
 use mathlib.Core.Path.{◌≡◌, refl, sym, ap, ◌∙◌}
-use mathlib.Core.Bool.{Bool, true, false, not, ◌||◌, or-true}
+use mathlib.Core.Bool.{Bool, true, false, not, ◌||◌, or-true, or-false}
 use mathlib.Core.List.{List, [], ◌∷◌, ◌++◌, map}
 use lib.Dec.{eqb, ltb}
 use lib.ListN.{length, get_or}
 use lib.Ieee.{Float}
 use borrow.Author.Tests.{eq-eqb, ne_eqb, eqb-true, eqb-false, ltb-false, not-false}
-use Rattle.std.specs.Prelude.{Ok, Err, cond}
+use Rattle.std.specs.Prelude.{Result, Ok, Err, cond}
 use Rattle.rules.specs.Sums.{any}
 use Rattle.rules.specs.Refusals.{test, first_of, lengths_off, answer_by}
 use Rattle.rules.specs.Knots.{some_unfit}
 use Rattle.rules.specs.declared.refusal.Refusal.{Refusal}
-use Rattle.rules.specs.declared.refusal.Refusal.TheVariants.{Lengths, Value}
+use Rattle.rules.specs.declared.refusal.Refusal.TheVariants.{Order, NoPoints, Lengths, Value}
 use Rattle.laws.proofs.Any.{none_at}
 use Rattle.laws.proofs.Behind.{refused_before, passed_before}
 use Rattle.laws.proofs.Exactly.{none_passes}
@@ -57,17 +57,43 @@ others_off {A = A} points_of n m others off is = rw is (go others)
         either true c e d is = refl
         either false c e d is = is
 
--- the answer of axes whose points are not too few
-pub decided : {A : Type 0} (points_of : A → List Float) (most order n m : ℕ) (axes others : List A) (first : A) (off : Bool) → axes ≡ first ∷ others → n ≡ length (points_of first)
-    → ltb most order ≡ false → eqb n 0 ≡ false → off ≡ any (λ axis. differs n (points_of axis)) others
-    → answer_by {A = Unit {0}} (shape_tests most order (count (map points_of axes)) (lengths (map points_of axes) m)) tt ≡ cond (off || not (eqb m n)) (Err Lengths) (Ok tt)
-unfolding shape_tests
-decided points_of most order n m axes others first off is n_is few some off_is =
-    rw (is, sym n_is, few, some, sym (others_off points_of n m others off off_is)) (either (off || not (eqb m n)))
-  where
-    either : (b : Bool) → answer_by {A = Unit {0}} (test b Lengths ∷ []) tt ≡ cond b (Err Lengths) (Ok tt)
-    either true = refl
-    either false = refl
+abbrev fit : Result (Unit {0}) Refusal
+fit = Ok tt
+
+-- the answer of axes, by that of the lengths of the first and of the indices, and by whether the others differ
+module _ {A : Type 0} (points_of : A → List Float) (most order n m : ℕ) (axes others : List A) (first : A) (is : axes ≡ first ∷ others) (n_is : n ≡ length (points_of first)) where
+  decided : answer_by {A = Unit {0}} (shape_tests most order (count (map points_of axes)) (lengths (map points_of axes) m)) tt
+      ≡ cond (ltb most order) (Err Order) (cond (eqb n 0) (Err NoPoints) (cond (any (λ axis. differs n (points_of axis)) others || not (eqb m n)) (Err Lengths) (Ok tt)))
+  unfolding shape_tests
+  decided = rw (is, sym n_is, sym (others_off points_of n m others _ refl)) refl
+
+  lengths_decided : answer_by {A = Unit {0}} (shape_tests most order n (n ∷ n ∷ m ∷ [])) tt
+      ≡ cond (ltb most order) (Err Order) (cond (eqb n 0) (Err NoPoints) (cond (not (eqb m n)) (Err Lengths) (Ok tt)))
+  unfolding shape_tests any
+  lengths_decided = rw (eq-eqb n n refl, or-false (not (eqb m n))) refl
+
+  pub refused_by_lengths : (r : Refusal) → answer_by {A = Unit {0}} (shape_tests most order n (n ∷ n ∷ m ∷ [])) tt ≡ Err r
+      → answer_by {A = Unit {0}} (shape_tests most order (count (map points_of axes)) (lengths (map points_of axes) m)) tt ≡ Err r
+  refused_by_lengths r e = decided ∙ go (ltb most order) (eqb n 0) (not (eqb m n)) (any (λ axis. differs n (points_of axis)) others) (sym lengths_decided ∙ e)
+    where
+      go : (a b c off : Bool) → cond a (Err Order) (cond b (Err NoPoints) (cond c (Err Lengths) fit)) ≡ Err r
+          → cond a (Err Order) (cond b (Err NoPoints) (cond (off || c) (Err Lengths) fit)) ≡ Err r
+      go true b c off e = e
+      go false true c off e = e
+      go false false true off e = rw (or-true off) e
+      go false false false off e = cc
+
+  pub passed_by_lengths : answer_by {A = Unit {0}} (shape_tests most order n (n ∷ n ∷ m ∷ [])) tt ≡ Ok tt
+      → answer_by {A = Unit {0}} (shape_tests most order (count (map points_of axes)) (lengths (map points_of axes) m)) tt
+      ≡ cond (any (λ axis. differs n (points_of axis)) others) (Err Lengths) (Ok tt)
+  passed_by_lengths e = decided ∙ go (ltb most order) (eqb n 0) (not (eqb m n)) (any (λ axis. differs n (points_of axis)) others) (sym lengths_decided ∙ e)
+    where
+      go : (a b c off : Bool) → cond a (Err Order) (cond b (Err NoPoints) (cond c (Err Lengths) fit)) ≡ Ok tt
+          → cond a (Err Order) (cond b (Err NoPoints) (cond (off || c) (Err Lengths) fit)) ≡ cond off (Err Lengths) (Ok tt)
+      go true b c off e = cc
+      go false true c off e = cc
+      go false false true off e = cc
+      go false false false off e = rw (or-false off) refl
 
 first_length : (axes : List (List Float)) → 0 < length axes → length (get_or axes 0 []) ≡ count axes
 first_length [] h = absurd (omega arith)

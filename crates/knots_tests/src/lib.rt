@@ -5,10 +5,10 @@
 //   Lengths    a slice is not as long as that of x
 //   Value      a value is unfit
 //
-// A refusal is that of the first test that passes (test_points_only, test_shape_only).
+// A refusal is that of the first test that passes (test_points_only, test_shape_only; of lengths alone test_lengths_only).
 #![tactic(auto)]
 
-ghost use Rattle.std.specs.Prelude.{◌≡◌, map};
+ghost use Rattle.std.specs.Prelude.{◌≡◌, [], ◌∷◌, map};
 ghost use Rattle.rules.specs.Sums.{any};
 ghost use Rattle.rules.specs.Refusals.{answer_by};
 ghost use Rattle.knots_tests.specs.Tests.{differs, count, lengths, shape_tests, point_tests};
@@ -23,22 +23,42 @@ fn lengths_differ<P: Points>(axes: &[P], n: usize) -> bool
     axes.iter().any(|axis| axis.points().len() != n)
 }
 
-// The tests of the order and of the slices' lengths: points for each axis, from x on, and m indices.
-#[tactic(auto, using(std::proofs::Common::tests), unfolding(crate::specs::Tests::shape_tests))]
-pub fn test_shape<P: Points>(most: u32, order: u32, axes: &[P], m: usize) -> Result<(), Refusal>
-    ensures { result ≡ answer_by (shape_tests most order (count (map P.points_of axes.now)) (lengths (map P.points_of axes.now) m)) tt }
+// The tests of the order and of the slices' lengths, of lengths alone: n points, and so many ys, zs and indices.
+#[tactic(auto, using(std::proofs::Common::tests), unfolding(crate::specs::Tests::shape_tests, rules::specs::Sums::any))]
+pub fn test_lengths(
+    most: u32,
+    order: u32,
+    n: usize,
+    ys: usize,
+    zs: usize,
+    indices: usize,
+) -> Result<(), Refusal>
+    ensures { result ≡ answer_by (shape_tests most order n (ys ∷ zs ∷ indices ∷ [])) tt }
 {
     if order > most {
         return Err(Refusal::Order);
     }
-    let Some((first, others)) = axes.split_first() else {
-        return Err(Refusal::NoPoints);
-    };
-    let n = first.points().len();
     if n == 0 {
         return Err(Refusal::NoPoints);
     }
-    if lengths_differ(others, n) || m != n {
+    if ys != n || zs != n || indices != n {
+        return Err(Refusal::Lengths);
+    }
+    Ok(())
+}
+
+// The tests of the order and of the slices' lengths: points for each axis, from x on, and m indices. The points of other axes than x, as many
+// as there are, are compared here.
+#[tactic(auto, using(std::proofs::Common::tests), unfolding(crate::specs::Tests::shape_tests))]
+pub fn test_shape<P: Points>(most: u32, order: u32, axes: &[P], m: usize) -> Result<(), Refusal>
+    ensures { result ≡ answer_by (shape_tests most order (count (map P.points_of axes.now)) (lengths (map P.points_of axes.now) m)) tt }
+{
+    let Some((first, others)) = axes.split_first() else {
+        return test_lengths(most, order, 0, 0, 0, m);
+    };
+    let n = first.points().len();
+    test_lengths(most, order, n, n, n, m)?;
+    if lengths_differ(others, n) {
         return Err(Refusal::Lengths);
     }
     Ok(())
