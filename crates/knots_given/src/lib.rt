@@ -2,5 +2,5 @@
 // what a call files. Document 01 has the axes from the lowest to the highest of the points alone; on given ones an index stays where points are
 // added.
 //
-// There is no function here, and no proof: what follows is in given_laws, what meets it in given_2d and given_3d.
+// There is no function here, and no proof: what follows is in given_laws, what meets it in knots_on.
 #![tactic(auto)]
