@@ -3,4 +3,4 @@ use Rattle.ids.proofs.Way.{Way}
 use Rattle.ids.proofs.part_of.Given as goal
 
 abbrev pub invariant-loop-level : goal.invariant-loop-level
-invariant-loop-level g l = Way l.splits g.row.AXES l.halving.depth l.halving.first l.cell l.node l.id l.axis l.level
+invariant-loop-level g l = Way l.splits g.row.AXES l.depth l.first l.cell l.node l.id l.axis l.level

@@ -13,6 +13,5 @@ pub loop-x-preserved : goal.loop-x-preserved
 unfolding id_on
 loop-x-preserved g c =
     let a = c.args in
-    let h = a.halving.now in
     rw (c.loop-x.invariant, c.part_of.ensures)
-    (list_more (λ x. id_on a.splits.now g.row.AXES h.depth h.first x a.y a.z) a.row.now c.loop-x.x (omega arith))
+    (list_more (λ x. id_on a.splits.now g.row.AXES a.depth a.first x a.y a.z) a.row.now c.loop-x.x (omega arith))

@@ -5,4 +5,4 @@ use Rattle.ids.specs.Ids.{id_at}
 use Rattle.ids.proofs.write_rows.Given as goal
 
 abbrev pub invariant-loop-q : goal.invariant-loop-q
-invariant-loop-q g l = l.ids ≡ list (id_at l.splits g.row.AXES l.halving.depth l.halving.first l.width l.height) (l.width * l.q) ++ drop (l.width * l.q) l.initial.ids
+invariant-loop-q g l = l.ids ≡ list (id_at l.splits g.row.AXES l.depth l.first l.width l.height) (l.width * l.q) ++ drop (l.width * l.q) l.initial.ids
