@@ -15,6 +15,8 @@ use Rattle.tallies.proofs.Tally.clear.Kinds as clear-kinds
 use Rattle.tallies.proofs.Tally.clear.Reads as clear-reads
 use Rattle.tallies.proofs.Tally.add_all.Kinds as add-all-kinds
 use Rattle.tallies.proofs.Tally.add_all.Reads as add-all-reads
+use Rattle.tallies.proofs.Tally.make.Kinds as make-kinds
+use Rattle.tallies.proofs.Tally.make.Reads as make-reads
 
 -- a tally but for its lines
 abbrev pub Known : Type 0
@@ -39,3 +41,6 @@ clear_only κs a y z e f p q = (refl, same p q)
 
 pub add_all_only : OnlyLeaving {A = Known} add-all-kinds.ps add-all-kinds.r add-all-reads.Post (λ κs e. known e.0.now)
 add_all_only κs a y z e f p q = (refl, sums_once p q)
+
+pub make_only : OnlyLeaving {A = Known} make-kinds.ps make-kinds.r make-reads.Post (λ κs e. known e.0.now)
+make_only κs a y z e f p q = (refl, sums_once p q)

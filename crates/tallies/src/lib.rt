@@ -137,4 +137,14 @@ impl Tally {
         }
         self.heaviest = self.heaviest_line(sides);
     }
+
+    // The sums of weights and ids, whatever it held.
+    pub fn make(&mut self, sides: &[usize], weights: &[u64], ids: &[u32])
+        requires weighed { Weighed sides.now weights.now }
+        requires named { Named 4096 sides.now ids.now }
+        ensures { Sums sides.now weights.now ids.now self.new }
+    {
+        self.clear();
+        self.add_all(sides, weights, ids);
+    }
 }
