@@ -7,14 +7,15 @@
 //   Lengths   weights or ids are not one for each cell, or splits are not 2^depth - 1
 //   Weight    a weight is too heavy
 //
-// The refusal is that of the first test that passes (tests_only); what follows where none does is Accepted.
+// The refusal is that of the first test that passes (tests_only); what follows where none does is Accepted. A grid in 2D is tested as one of
+// one layer (one_layer).
 #![tactic(auto)]
 
 ghost use Rattle.std.specs.Prelude.{◌≡◌, ◌≤◌, ◌-◌, ◌^◌, ◌||◌, [], ◌∷◌, length};
 ghost use Rattle.rules.specs.Sums.{any};
-ghost use Rattle.rules.specs.Refusals.{top_depth, number_in, edition_unknown, side_unfit, sides_unfit, lengths_off};
+ghost use Rattle.rules.specs.Refusals.{top_depth, first_of, number_in, edition_unknown, side_unfit, sides_unfit, lengths_off, grid_tests};
 ghost use Rattle.rules.specs.Halving.{refusal_of};
-ghost use Rattle.blocks.specs.Blocks.{sides_of, rule_of};
+ghost use Rattle.blocks.specs.Blocks.{rule_of};
 
 use blocks::{Grid, Halving};
 use rules::{EDITION_1, EDITION_2, Refusal, TOP_CELLS, TOP_DEPTH, TOP_SIDE};
@@ -35,11 +36,12 @@ fn side_unfit(sides: &[usize]) -> bool
         .any(|side| *side == 0 || *side > TOP_SIDE as usize)
 }
 
-// Whether a side is unfit or there are too many cells.
+// Whether one of all three sides is unfit or there are too many cells.
+#[tactic(auto, using(crate::proofs::ThreeSides::none_unfit, crate::proofs::ThreeSides::as_many_cells))]
 fn sides_unfit(grid: Grid) -> bool
-    ensures { result ≡ sides_unfit (sides_of grid) }
+    ensures { result ≡ sides_unfit grid.sides }
 {
-    side_unfit(grid.sides()) || grid.cells() > TOP_CELLS as usize
+    side_unfit(&grid.sides) || grid.cells() > TOP_CELLS as usize
 }
 
 // Whether weights or ids are not one for each of the cells, or splits are not 2^depth - 1.
@@ -52,11 +54,10 @@ fn lengths_off(cells: usize, depth: u32, weights: &[u64], splits: &[u32], ids: &
         || weights::lengths_off((1usize << depth) - 1, &[splits.len()])
 }
 
-// The tests of a halving, its weights, and the slices for its splits and ids, in their order. The slices come one by one: so the C interface
-// lends them, and what lent them has them back changed or not.
-#[tactic(auto, using(blocks::proofs::AsBlocks::axes_are), unfolding(rules::specs::Refusals::grid_tests))]
-pub fn tests(halving: Halving, weights: &[u64], splits: &[u32], ids: &[u32]) -> Result<(), Refusal>
-    ensures { number_in result ≡ refusal_of (rule_of halving) weights.now splits.now ids.now }
+// The tests of a halving, its three sides, its weights, and the slices for its splits and ids, in their order.
+#[tactic(auto, using(crate::proofs::ThreeSides::none_unfit, crate::proofs::ThreeSides::as_many_cells), unfolding(rules::specs::Refusals::grid_tests))]
+fn refusal(halving: Halving, weights: &[u64], splits: &[u32], ids: &[u32]) -> Result<(), Refusal>
+    ensures { number_in result ≡ first_of (grid_tests halving.edition halving.grid.axes halving.first halving.grid.sides halving.depth weights.now (length ids.now) (length splits.now)) }
 {
     let grid = halving.grid;
     if edition_unknown(halving.edition) {
@@ -78,4 +79,11 @@ pub fn tests(halving: Halving, weights: &[u64], splits: &[u32], ids: &[u32]) -> 
         return Err(Refusal::Weight);
     }
     Ok(())
+}
+
+// The tests of a halving. The slices come one by one: so the C interface lends them, and what lent them has them back changed or not.
+pub fn tests(halving: Halving, weights: &[u64], splits: &[u32], ids: &[u32]) -> Result<(), Refusal>
+    ensures { number_in result ≡ refusal_of (rule_of halving) weights.now splits.now ids.now }
+{
+    refusal(halving, weights, splits, ids)
 }
