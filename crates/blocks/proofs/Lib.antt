@@ -1,2 +1,3 @@
 pub mod AsBlocks
+pub mod Alike
 pub mod Once

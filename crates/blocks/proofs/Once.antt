@@ -1,11 +1,10 @@
--- No second answer fits the contract of a function that another crate calls, and none of a halving's conversion stands for another halving of the rules.
--- Assumes nothing.
+-- No second answer fits the contract of a function that another crate calls. Assumes nothing.
 use mathlib.Core.Path.{◌≡◌}
 use contract.Lifetimes.{Lfts}
 use denote.Triple.Clauses.{AtExit}
 use borrow.Fn.Kinds.{Dens, res_t, ended_of}
 use Rattle.laws.proofs.Only.{Only, same}
-use Rattle.blocks.specs.Blocks.{rule_of}
+use Rattle.blocks.proofs.Alike.{halving_once}
 use Rattle.blocks.proofs.halving.HalvingFromHalving2.from.Kinds as from-2d-kinds
 use Rattle.blocks.proofs.halving.HalvingFromHalving2.from.Reads as from-2d-reads
 use Rattle.blocks.proofs.halving.HalvingFromHalving3.from.Kinds as from-3d-kinds
@@ -33,13 +32,11 @@ use Rattle.blocks.proofs.block.SubGrid.left_part.Reads as left-part-reads
 use Rattle.blocks.proofs.block.SubGrid.right_part.Kinds as right-part-kinds
 use Rattle.blocks.proofs.block.SubGrid.right_part.Reads as right-part-reads
 
-pub from_2d_only : (κs : Lfts 0) (a : Dens κs from-2d-kinds.ps) (y z : (res_t from-2d-kinds.r κs).Denot) (e f : AtExit (ended_of 0 from-2d-kinds.ps from-2d-kinds.r) κs)
-    → from-2d-reads.Post κs a y e → from-2d-reads.Post κs a z f → rule_of y ≡ rule_of z
-from_2d_only κs a y z e f p q = same p q
+pub from_2d_only : Only from-2d-kinds.ps from-2d-kinds.r from-2d-reads.Post
+from_2d_only κs a y z e f p q = halving_once y z (same p q)
 
-pub from_3d_only : (κs : Lfts 0) (a : Dens κs from-3d-kinds.ps) (y z : (res_t from-3d-kinds.r κs).Denot) (e f : AtExit (ended_of 0 from-3d-kinds.ps from-3d-kinds.r) κs)
-    → from-3d-reads.Post κs a y e → from-3d-reads.Post κs a z f → rule_of y ≡ rule_of z
-from_3d_only κs a y z e f p q = same p q
+pub from_3d_only : Only from-3d-kinds.ps from-3d-kinds.r from-3d-reads.Post
+from_3d_only κs a y z e f p q = halving_once y z (same p q)
 
 pub sides_only : (κs : Lfts 1) (a : Dens κs sides_Kinds.ps) (y z : (res_t sides_Kinds.r κs).Denot) (e f : AtExit (ended_of 1 sides_Kinds.ps sides_Kinds.r) κs)
     → sides-reads.Post κs a y e → sides-reads.Post κs a z f → y.now ≡ z.now
