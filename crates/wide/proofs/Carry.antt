@@ -1,8 +1,8 @@
 -- Sums by columns: what is carried, and what is left of three columns.
-use Prim.Native.Nat.{ℕ, ◌+◌, ◌*◌, ◌/◌, ◌%◌, ◌≤◌, ◌<◌}
+use Prim.Native.Nat.{ℕ, suc, ◌+◌, ◌*◌, ◌/◌, ◌%◌, ◌≤◌, ◌<◌}
 use native.Mathlib.Omega.{arith}
-use native.Mathlib.Nat.{div-add-mod, lt_of_mul-lt-mul_left, mod-lt, mul-le-mul_left}
-use mathlib.Core.Path.{◌≡◌, ap, ◌∙◌}
+use native.Mathlib.Nat.{div-add-mod, lt_of_not-le, lt_of_mul-lt-mul_left, mod-lt, mul-le-mul_left}
+use mathlib.Core.Path.{◌≡◌, ap, sym, ◌∙◌}
 use lib.Dec.{lit<}
 use Rattle.wide.specs.Value.{value, Limbs, room, limb}
 
@@ -37,6 +37,16 @@ over b x i y j h l = omega (arith, mul-le-mul_left b (next i j l))
   where
     next : (i j : ℕ) → i < j → i + 1 ≤ j
     next i j l = omega arith
+
+-- so two numbers that are equal have the same digits
+pub same_digits : (b x i y j : ℕ) → x < b → y < b → x + b * i ≡ y + b * j → (x ≡ y) × (i ≡ j)
+same_digits b x i y j h l e =
+    let q : i ≡ j = omega (arith, not_over b x i y j h e, not_over b y j x i l (sym e)) in
+    let f : x + b * j ≡ y + b * j = rw q at e in
+    (omega (arith, f), q)
+  where
+    not_over : (b x i y j : ℕ) → x < b → x + b * i ≡ y + b * j → j ≤ i
+    not_over b x i y j h e = let l : j < suc i = lt_of_not-le (λ (q : i < j). omega (arith, over b x i y j h q)) in omega (arith, l)
 
 -- so the limbs, from the top, order two numbers
 module _ {hi mid lo hi' : ℕ} (mid' lo' : ℕ) (p : Limbs hi mid lo) where
