@@ -1,7 +1,8 @@
 -- A call whose number is 0 passed every test, and what each test says of it then holds; what a call leaves. Assumes nothing.
-use Prim.Native.Nat.{ℕ, ◌<◌}
+use Prim.Native.Nat.{ℕ, zero, suc, ◌<◌}
 use native.Mathlib.Nat.{pos_of_ne-zero}
-use mathlib.Core.Path.{◌≡◌}
+use native.Mathlib.Omega.{arith}
+use mathlib.Core.Path.{◌≡◌, refl}
 use mathlib.Core.Bool.{◌||◌}
 use mathlib.Core.List.{List, [], ◌∷◌}
 use lib.Dec.{eqb, ltb, lit≤}
@@ -12,7 +13,7 @@ use Rattle.rules.specs.declared.refusal.Refusal.{Refusal}
 use Rattle.requests.specs.Order.{top_points, order_of}
 use Rattle.requests.specs.Parts.{top_parts, parts_tests, parts_of, parts_along}
 use Rattle.laws.proofs.Any.{neither, none_at, length_fits}
-use Rattle.laws.proofs.Exactly.{none_passes, untouched}
+use Rattle.laws.proofs.Exactly.{none_passes}
 use Rattle.laws.proofs.Numbers.{number_above_0}
 use Rattle.parts_laws.specs.Accepted.{Accepted}
 
@@ -43,9 +44,14 @@ module _ (n : ℕ) (ix ws parts order : List ℕ) where
         light = λ p l. ltb-false top_weight _ (none_at (ltb top_weight) 0 ws none.1.1.1.0 p l);
       }
 
+  -- whatever number it has but 0
+  pub numbered : (r : ℕ) → r ≡ refusal → (r ≡ 0 → ⊥) → parts_along n ix ws parts order ≡ record { number = r; parts = parts; order = order }
+  unfolding parts_along slice_by
+  numbered zero e f = absurd (f refl)
+  numbered (suc r) e f = rw (← e)
+
   pub refused : (r : Refusal) → number_of r ≡ refusal → parts_along n ix ws parts order ≡ record { number = number_of r; parts = parts; order = order }
-  unfolding parts_along
-  refused r e = rw (← e, untouched (number_of r) _ parts (number_above_0 r), untouched (number_of r) _ order (number_above_0 r))
+  refused r e = numbered (number_of r) e (λ z. omega (arith, number_above_0 r))
 
   pub answered : refusal ≡ 0 → parts_along n ix ws parts order ≡ record { number = 0; parts = parts_of n ix ws; order = order_of ix }
   unfolding parts_along slice_by

@@ -1,5 +1,6 @@
 -- A call whose number is 0 passed every test: its halving is not refused, its edition is 2, and it has an amount and an answer for each event.
-use Prim.Native.Nat.{ℕ}
+use Prim.Native.Nat.{ℕ, zero, suc}
+use native.Mathlib.Omega.{arith}
 use mathlib.Core.Path.{◌≡◌, refl}
 use mathlib.Core.Bool.{false, not}
 use mathlib.Core.List.{List, [], ◌∷◌}
@@ -12,7 +13,7 @@ use Rattle.rules.specs.Halving.{Halving, refusal_of}
 use Rattle.rules.specs.Demands.{NonePasses}
 use Rattle.requests.specs.Replay.{Night, night, weights_at, said_at, splits_at, ids_at, replay_tests, Replayed, replay}
 use Rattle.laws.proofs.Any.{neither, none_at}
-use Rattle.laws.proofs.Exactly.{none_passes, untouched}
+use Rattle.laws.proofs.Exactly.{none_passes}
 use Rattle.laws.proofs.Numbers.{number_above_0}
 use Rattle.halving_laws.specs.Accepted.{Accepted}
 use Rattle.halving_laws.proofs.Accepted.{accepted}
@@ -47,13 +48,16 @@ module _ (h : Halving) (ws cs ms answers splits ids : List ℕ) where
     pub answers_long : length answers ≡ length cs
     answers_long = eqb-true _ (length cs) (not-false _ (none_at (λ m. not (eqb m (length cs))) 0 (length ms ∷ length answers ∷ []) lengths.1 1 (lit≤ tt)))
 
-  -- what a call leaves
+  -- what a call leaves, whatever number it has but 0
+  pub numbered : (n : ℕ) → n ≡ first_of (replay_tests h ws cs ms answers splits ids) → (n ≡ 0 → ⊥)
+      → replay h ws cs ms answers splits ids ≡ record { number = n; weights = ws; answers = answers; splits = splits; ids = ids }
+  unfolding replay slice_by
+  numbered zero e f = absurd (f refl)
+  numbered (suc n) e f = rw (← e)
+
   pub refused : (r : Refusal) → number_of r ≡ first_of (replay_tests h ws cs ms answers splits ids)
       → replay h ws cs ms answers splits ids ≡ record { number = number_of r; weights = ws; answers = answers; splits = splits; ids = ids }
-  unfolding replay
-  refused r e =
-      let l = number_above_0 r in
-      rw (← e, untouched (number_of r) _ ws l, untouched (number_of r) _ answers l, untouched (number_of r) _ splits l, untouched (number_of r) _ ids l)
+  refused r e = numbered (number_of r) e (λ z. omega (arith, number_above_0 r))
 
   pub answered : first_of (replay_tests h ws cs ms answers splits ids) ≡ 0
       → replay h ws cs ms answers splits ids
@@ -67,11 +71,14 @@ module _ (h : Halving) (ws cs ms answers splits ids : List ℕ) where
       let after : Replayed = replay h ws cs ms answers splits ids in
       (n ≡ after.number) × ((ws' ≡ after.weights) × ((answers' ≡ after.answers) × ((splits' ≡ after.splits) × (ids' ≡ after.ids))))
 
+  pub numbered_leaves : (n : ℕ) → n ≡ first_of (replay_tests h ws cs ms answers splits ids) → (n ≡ 0 → ⊥) → Leaves n ws answers splits ids
+  numbered_leaves n e f = rw (numbered n e f) (refl, (refl, (refl, (refl, refl))))
+
   pub refused_leaves : (r : Refusal) → number_of r ≡ first_of (replay_tests h ws cs ms answers splits ids) → Leaves (number_of r) ws answers splits ids
   refused_leaves r e = rw (refused r e) (refl, (refl, (refl, (refl, refl))))
 
-  pub answered_leaves : {ws' answers' splits' ids' : List ℕ} → first_of (replay_tests h ws cs ms answers splits ids) ≡ 0
+  pub answered_leaves : {n : ℕ} {ws' answers' splits' ids' : List ℕ} → first_of (replay_tests h ws cs ms answers splits ids) ≡ 0 → n ≡ 0
       → (let t : Night = night ws cs ms in let m : ℕ = length cs in
       (ws' ≡ weights_at t m) × ((answers' ≡ said_at t m) × ((splits' ≡ splits_at h t m) × (ids' ≡ ids_at h t m))))
-      → Leaves 0 ws' answers' splits' ids'
-  answered_leaves e w = rw (answered e) (refl, w)
+      → Leaves n ws' answers' splits' ids'
+  answered_leaves e z w = rw (answered e) (z, w)

@@ -18,5 +18,5 @@ night-requires c =
 pub returns : goal.returns
 returns c =
     let n = c.night.ensures in
-    let l = answered_leaves _ _ _ _ _ _ _ (sym c.in_ok-tests.ensures) (n.weights, (n.answers, (n.splits, n.ids))) in
+    let l = answered_leaves _ _ _ _ _ _ _ (sym c.in_ok-tests.ensures) refl (n.weights, (n.answers, (n.splits, n.ids))) in
     record { number = l.0; weights = l.1.0; answers = l.1.1.0; splits = l.1.1.1.0; ids = l.1.1.1.1 }
