@@ -8,7 +8,7 @@
 //            coordinates, or UNCUT
 //   ids      one for each cell, in the order of the weights
 //
-// A refused call writes nothing. A caller may rely on these laws: one answer and one pair of slices keep the promise (rcb_2d_only,
+// A refused call writes nothing. A caller may rely on these laws: one answer and one pair of slices keep the promise (rcb_only, rcb_2d_only,
 // rcb_3d_only); each id is below 2^depth (ids_below); the weights of the ids add up to the whole and keep to their bounds (demand_3_in_2d,
 // demand_3_in_3d); each cut lies in its block, and a node is not cut just where its side is 0 or its parent is not cut
 // (structured); in 2D, nothing but the first axis tells x from y (mirror).
@@ -22,9 +22,9 @@ ghost use Rattle.blocks.specs.Blocks.{rule_of};
 use blocks::Halving;
 use rules::{Halving2, Halving3, Refusal};
 
-// Halves a grid: the tests, and then, where none refuses, splits and ids written. The slices are arguments beside the halving, as the C
-// interface lends them.
-fn rcb(
+// Halves a grid, of a plane or of space by one type: the tests, and then, where none refuses, splits and ids written. Replays call it too. The
+// slices are arguments beside the halving, as the C interface lends them.
+pub fn rcb(
     halving: Halving,
     weights: &[u64],
     splits: &mut [u32],

@@ -1,2 +1,3 @@
+pub mod Halved
 pub mod Known
 pub mod Once

@@ -26,7 +26,7 @@ use tallies::Tally;
 use watch::Watch;
 
 // The sums, and the heaviest and the lightest part.
-#[derive(Drop)]
+#[derive(Clone, Copy)]
 pub struct Running {
     pub tally: Tally,
     pub watch: Watch,
@@ -61,7 +61,8 @@ impl Running {
         self.watch.find(halving.depth, &self.tally.parts);
     }
 
-    // Halves a grid, and takes its sums, from sums of no cells.
+    // Halves a grid, and takes its sums, from sums of no cells. The grid is tested again, which costs little beside the halving; called without
+    // its tests, from a second place, the halving would cost more from both.
     pub fn begin(&mut self, halving: Halving, weights: &[u64], splits: &mut [u32], ids: &mut [u32])
         requires none { self.old.tally ≡ nothing }
         requires accepted { Accepted (rule_of halving) weights.now splits.old ids.old }
@@ -69,7 +70,7 @@ impl Running {
         ensures ids { ids.new ≡ ids_by (rule_of halving) weights.now }
         ensures runs { Runs (rule_of halving) weights.now ids.new self.new }
     {
-        halve::halve(halving, weights, splits, ids);
+        let _ = halving::rcb(halving, weights, splits, ids);
         self.count(halving, weights, ids);
     }
 
