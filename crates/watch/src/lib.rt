@@ -11,7 +11,7 @@ ghost use Rattle.watch.specs.Watched.{Heaviest, Watched, Was};
 use bounds::Measure;
 
 // The id of a heaviest part, and the tree of the lightest.
-#[derive(Drop)]
+#[derive(Clone, Copy)]
 pub struct Watch {
     pub most: usize,
     pub tree: [usize; 4096],
