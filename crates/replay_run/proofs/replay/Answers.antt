@@ -1,5 +1,5 @@
 -- A refused call writes nothing, and any other is accepted and its night replayed.
-use Rattle.std.proofs.Common.{sym}
+use Rattle.std.proofs.Common.{refl, sym}
 use Rattle.std.proofs.lemmas.Result.{err_from_is_err_and}
 use Rattle.replay_laws.proofs.Accepted.{replay_accepted, amounts_long, answers_long, refused_leaves, answered_leaves}
 use Rattle.replay_run.proofs.replay.Goals as goal
