@@ -84,10 +84,9 @@ fn points_outside(axes: &[Placed]) -> bool
 
 // What is asked of the axes and their points; where nothing passes, each axis takes its points.
 #[tactic(auto, using(std::proofs::Common::tests, crate::proofs::OneAxis::given_unfit), unfolding(knots_given::specs::Given::asked_of, knots_given::specs::Given::questions))]
-pub fn test_axes(axes: &[Placed], order: u32) -> Result<(), Refusal>
-    ensures value { result ≡ answer_by (asked_of (map given axes.now) (questions order)) tt }
+fn asked(axes: &[Placed], order: u32) -> Result<(), Refusal>
+    ensures answer { result ≡ answer_by (asked_of (map given axes.now) (questions order)) tt }
     ensures takes { result ≡ Ok tt → All (λ p. Taken (length p.points.now) order p) axes.now }
-    ensures earliest { number_in result ≡ number_at_place (place order (map given axes.now)) }
 {
     if ends_unfit(axes) {
         return Err(Refusal::Value);
@@ -108,4 +107,13 @@ pub fn test_axes(axes: &[Placed], order: u32) -> Result<(), Refusal>
         return Err(Refusal::Outside);
     }
     Ok(())
+}
+
+// The same, and that the number is that of the earliest place.
+pub fn test_axes(axes: &[Placed], order: u32) -> Result<(), Refusal>
+    ensures value { result ≡ answer_by (asked_of (map given axes.now) (questions order)) tt }
+    ensures takes { result ≡ Ok tt → All (λ p. Taken (length p.points.now) order p) axes.now }
+    ensures earliest { number_in result ≡ number_at_place (place order (map given axes.now)) }
+{
+    asked(axes, order)
 }
