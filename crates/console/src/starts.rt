@@ -26,7 +26,14 @@ impl Starts {
     pub fn keep(&mut self, line: Line<'_>) -> bool
         ensures { Unit {0} }
     {
-        let start = u32::try_from(line.start).unwrap_or(u32::MAX);
+        self.keep_at(line.start)
+    }
+
+    // Keeps the place where a line starts.
+    pub fn keep_at(&mut self, start: usize) -> bool
+        ensures { Unit {0} }
+    {
+        let start = u32::try_from(start).unwrap_or(u32::MAX);
         self.places.try_push(start).is_ok()
     }
 

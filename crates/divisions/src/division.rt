@@ -120,3 +120,13 @@ impl Iterator for Along<'_> {
         self.division.point(*number)
     }
 }
+
+impl Along<'_> {
+    // The index of the next point.
+    pub fn next_index(&self) -> Option<u64>
+        ensures { Unit {0} }
+    {
+        let number = *self.rest.first()?;
+        self.division.indices.get(number as usize).copied()
+    }
+}

@@ -35,15 +35,16 @@ impl Drawn<'_> {
         self.ids.get(cell.checked_sub(before)?).copied()
     }
 
-    // How many cells from one on, each so far behind the one before it, have its id, of at most so many.
+    // How many cells from one on, each so far behind the one before it, have its id, of at most so many. By chunks, since step_by goes over all
+    // that lies between.
     pub(crate) fn run(self, cell: usize, apart: usize, most: usize) -> usize
         requires { 0 < apart }
         ensures { result ≤ most }
     {
         let cells = self.ids.get(cell..).unwrap_or(&[]);
         let id = cells.first();
-        let behind = cells.iter().step_by(apart).take(most);
-        behind.take_while(|other| Some(*other) == id).count()
+        let behind = cells.chunks(apart).take(most);
+        behind.take_while(|others| others.first() == id).count()
     }
 
     // The box that begins at a cell of a layer that is shown.

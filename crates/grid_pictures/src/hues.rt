@@ -52,7 +52,8 @@ impl Hues {
         }
     }
 
-    // Which colours the parts around a box have, of those before the last one.
+    // Which colours the parts around a box have, of those before the last one. The place is carried on from line to line, since step_by goes over
+    // all that lies between.
     fn around_box(&self, drawn: Drawn<'_>, first: usize, id: u32) -> [bool; 11] {
         let shape = drawn.plan.shape;
         let spot = shape.spot(first);
@@ -61,12 +62,16 @@ impl Hues {
         let through = drawn.run(first, shape.layer(), shape.layers - spot.z);
         let cells = drawn.ids.len();
         let mut taken = [false; 11];
-        for layer in (first..cells).step_by(shape.layer()).take(through) {
-            for line in (layer..cells).step_by(shape.width).take(down) {
+        let mut layer = first;
+        for _ in 0..through {
+            let mut line = layer;
+            for _ in 0..down {
                 for cell in (line..cells).take(across) {
                     self.mark_around(drawn, cell, id, &mut taken);
                 }
+                line = line.saturating_add(shape.width);
             }
+            layer = layer.saturating_add(shape.layer());
         }
         taken
     }

@@ -41,7 +41,12 @@ impl Columns {
     pub fn axis_of(&self, column: usize) -> Option<usize>
         ensures { IfSome result (λ axis. axis < 3) }
     {
-        self.places().iter().position(|place| *place == column)
+        match self {
+            Columns::First(3) => (column < 3).then_some(column),
+            Columns::First(_) => (column < 2).then_some(column),
+            Columns::Two(places) => places.iter().position(|place| *place == column),
+            Columns::Three(places) => places.iter().position(|place| *place == column),
+        }
     }
 }
 

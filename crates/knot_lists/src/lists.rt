@@ -1,4 +1,6 @@
 // The list of indices: what it is, the header, and each knot's line behind its index.
+ghost use Rattle.std.specs.Prelude.{◌≤◌, length};
+
 use crate::notes::print_note;
 use console::starts::MOST;
 use knot_files::asked;
@@ -23,12 +25,9 @@ impl List<'_> {
     pub fn print(self, rt: HostRuntime, words: &Words) -> Outcome
         ensures { Unit {0} }
     {
-        let mut room = [0u32; MOST];
         let n = self.indices.len().min(MOST);
-        let order = &mut room[..n];
-        sort::in_order(&self.indices[..n], order);
-        let printed = self.print_in(rt, words, order);
-        let shared = shared(self.indices, order);
+        let printed = self.print_in(rt, words, n);
+        let shared = shared(&self.indices[..n]);
         if shared != 0 {
             say(
                 asked::path(words),
@@ -39,7 +38,10 @@ impl List<'_> {
     }
 
     // Prints the list, in the order of the indices where that is asked for.
-    fn print_in(self, rt: HostRuntime, words: &Words, order: &[u32]) -> Outcome {
+    fn print_in(self, rt: HostRuntime, words: &Words, n: usize) -> Outcome
+        requires few { n ≤ 65536 }
+        requires some { n ≤ length self.indices.now }
+    {
         let mut out = Output::of(rt);
         if !asked::plain(words) {
             print_note(&mut out, words, self.sides)?;
@@ -48,6 +50,9 @@ impl List<'_> {
         print_header(&mut out, "index", layout)?;
         let starts = self.knots.starts();
         if asked::sorted(words) {
+            let mut room = [0u32; MOST];
+            let order = &mut room[..n];
+            sort::in_order(&self.indices[..n], order);
             print_lines_in_order(&mut out, layout.source, order, starts, self.indices)?;
         } else {
             print_lines(&mut out, layout.source, starts, self.indices)?;
@@ -56,11 +61,15 @@ impl List<'_> {
     }
 }
 
-// How many points share an index with one before them, which stand side by side in the order of the indices.
-fn shared(indices: &[u64], order: &[u32]) -> usize {
-    let index_of = |point: &u32| indices.get(*point as usize);
-    let pairs = order.windows(2);
-    pairs
-        .filter(|pair| index_of(&pair[0]) == index_of(&pair[1]))
-        .count()
+// How many of some indices, as many as there may be knots, stand before among them. They are sorted by themselves, which takes fewer instructions
+// than the order of their knots.
+fn shared(indices: &[u64]) -> usize
+    requires { length indices.now ≤ 65536 }
+{
+    let mut room = [0u64; MOST];
+    let sorted = &mut room[..indices.len()];
+    sorted.copy_from_slice(indices);
+    sorted.sort_unstable();
+    let pairs = sorted.windows(2);
+    pairs.filter(|pair| pair[0] == pair[1]).count()
 }

@@ -65,8 +65,8 @@ fn print_ends(out: &mut Output, drawn: Drawn<'_>) -> Outcome {
         return Ok(());
     };
     let ends = Ends {
-        first: first.place,
-        last: spots.last().map(|spot| spot.place),
+        first: drawn.place_of(first.knot),
+        last: spots.last().map(|spot| drawn.place_of(spot.knot)),
         middle: Place {
             x: ROOM + WIDTH / 2,
             y: ROOM + HEIGHT / 2,

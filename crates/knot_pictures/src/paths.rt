@@ -1,6 +1,7 @@
 // The knots as paths: one through all of them, and for each part one of strokes without length, whose round ends are the dots.
 use crate::spots::Drawn;
 use drawing::colours::Colour;
+use drawing::ends::Place;
 use messages::Outcome;
 use printing::Output;
 use std::fmt::Write;
@@ -13,7 +14,8 @@ pub(crate) fn print_line(out: &mut Output, drawn: Drawn<'_>) -> Outcome {
             i if i % 16 == 0 => "\n",
             _ => " ",
         };
-        write!(out, "{before}{spot}")?;
+        let Place { x, y } = drawn.place_of(spot.knot);
+        write!(out, "{before}{x} {y}")?;
     }
     Ok(())
 }
@@ -31,7 +33,8 @@ pub(crate) fn print_dots(out: &mut Output, drawn: Drawn<'_>, shared: bool) -> Ou
             begin(out, spot.part, shared)?;
             open = Some(spot.part);
         }
-        write!(out, "M{spot}h0")?;
+        let Place { x, y } = drawn.place_of(spot.knot);
+        write!(out, "M{x} {y}h0")?;
     }
     end(out, open)
 }

@@ -4,7 +4,6 @@ use divisions::division::{Along, Division, Point};
 use drawing::ends::Place;
 use knot_rows::knots::Knots;
 use knot_rows::sides::Side;
-use std::fmt;
 
 // How far the knots go across, up and aslant, and the room around them.
 pub(crate) const WIDTH: u64 = 8580;
@@ -23,10 +22,10 @@ pub(crate) enum Mark {
     More,
 }
 
-// What is drawn of a knot.
+// What is drawn of a knot, by its number. Its place is worked out where it is printed, since most that go over the spots ask for none.
 #[derive(Clone, Copy)]
 pub(crate) struct Spot {
-    pub place: Place,
+    pub knot: usize,
     pub mark: Mark,
     pub part: u32,
 }
@@ -35,14 +34,6 @@ impl Spot {
     // Whether the knot shares its cell.
     pub(crate) fn shares(self) -> bool {
         self.mark != Mark::Alone
-    }
-}
-
-// A spot in a path.
-impl fmt::Display for Spot {
-    fn fmt<W: fmt::Write>(&self, f: &mut fmt::Formatter<W>) -> fmt::Result {
-        let Place { x, y } = self.place;
-        write!(f, "{x} {y}")
     }
 }
 
@@ -73,7 +64,7 @@ impl<'a> Drawn<'a> {
     }
 
     // Where a knot is.
-    fn place_of(self, knot: usize) -> Place {
+    pub(crate) fn place_of(self, knot: usize) -> Place {
         let Axes { across, up, aslant } = self.axes;
         let aslant = aslant.map_or(0, |axis| self.on_axis(axis, knot, SLANT));
         let right = self.on_axis(across, knot, WIDTH).saturating_add(aslant);
@@ -87,7 +78,6 @@ impl<'a> Drawn<'a> {
     // The spots of the knots in the order of their indices.
     pub(crate) fn spots(self) -> Spots<'a> {
         Spots {
-            drawn: self,
             last: None,
             rest: self.division.along(),
         }
@@ -97,22 +87,20 @@ impl<'a> Drawn<'a> {
 // The spots that are still to come, and the index of the last that came.
 #[derive(Clone, Copy)]
 pub(crate) struct Spots<'a> {
-    drawn: Drawn<'a>,
     last: Option<u64>,
     rest: Along<'a>,
 }
 
 impl Spots<'_> {
     // The mark of a point between the last one and those that are still to come.
-    fn mark_of(self, point: Point) -> Mark {
-        let mut ahead = self.rest;
+    fn mark_of(&self, point: Point) -> Mark {
         if self.last == Some(point.index) {
             return Mark::More;
         }
-        match ahead.next() {
-            Some(next) if next.index == point.index => Mark::First,
-            _ => Mark::Alone,
+        if self.rest.next_index() == Some(point.index) {
+            return Mark::First;
         }
+        Mark::Alone
     }
 }
 
@@ -126,7 +114,7 @@ impl Iterator for Spots<'_> {
         let mark = self.mark_of(point);
         self.last = Some(point.index);
         Some(Spot {
-            place: self.drawn.place_of(point.number),
+            knot: point.number,
             mark,
             part: point.part,
         })

@@ -12,9 +12,14 @@ use words::Words;
 pub(crate) fn print(out: &mut Output, words: &Words, drawn: Drawn<'_>) -> Outcome {
     print_title(out, words, drawn)?;
     out.write_str("<text x='115' y='56' fill='#444'>joined in the order of their index; ")?;
-    let spots = drawn.spots();
-    let cells = spots.filter(|spot| spot.mark == Mark::First).count() as u64;
-    let knots = spots.filter(|spot| spot.shares()).count();
+    let mut cells: u64 = 0;
+    let mut knots: usize = 0;
+    for spot in drawn.spots().filter(|spot| spot.shares()) {
+        knots = knots.saturating_add(1);
+        if spot.mark == Mark::First {
+            cells = cells.saturating_add(1);
+        }
+    }
     if knots == 0 {
         out.write_str("no two share a cell")?;
     } else {

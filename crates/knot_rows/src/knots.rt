@@ -1,8 +1,9 @@
 // The knots of a file: their coordinates, and where the line of each starts.
 use crate::values::value_of;
 use console::faults::{Counted, Faults, Wrong};
-use console::source::{Line, Span};
+use console::source::{Source, Span};
 use console::starts::{MOST, Starts};
+use fields::{Field, field_at};
 use knot_columns::columns::Columns;
 use knot_files::layout::Layout;
 
@@ -20,7 +21,8 @@ pub struct Knots<'a> {
 }
 
 impl<'a> Knots<'a> {
-    // Reads the lines of numbers into room for their knots. What is wrong is kept, and reading goes on while there is room for faults.
+    // Reads the lines of numbers into room for their knots. What is wrong is kept, and reading goes on while there is room for faults. A line ends
+    // where its fields do, since to look for its end first would go over it twice. There are no more lines than bytes.
     pub fn read(
         layout: Layout<'a>,
         columns: Columns,
@@ -30,13 +32,20 @@ impl<'a> Knots<'a> {
     ) -> Knots<'a>
         ensures { Unit {0} }
     {
-        for line in layout.lines() {
-            if faults.is_full() {
+        let text = layout.source.text;
+        let mut at = layout.first;
+        for _ in 0..text.len() {
+            if text.len() <= at || faults.is_full() {
                 break;
             }
-            if let Some(row) = row_of(layout, columns, line, faults) {
-                keep(line, row, values, starts, faults);
+            let row = Row::at(layout.source, columns, at, faults);
+            if row.count != 0 {
+                if let Err(wrong) = check_count(layout, columns, row.count) {
+                    faults.note_at(wrong, at);
+                }
+                keep(layout.source, at, row.values, values, starts, faults);
             }
+            at = row.next;
         }
         Knots {
             layout,
@@ -57,10 +66,8 @@ impl<'a> Knots<'a> {
         ensures { Unit {0} }
     {
         let values = self.values;
-        match values.chunks_exact(MOST).nth(axis) {
-            Some(values) => values.get(..self.starts.len()).unwrap_or(&[]),
-            None => &[],
-        }
+        let rest = values.get(axis.saturating_mul(MOST)..).unwrap_or(&[]);
+        rest.get(..self.starts.len()).unwrap_or(&[])
     }
 
     // A coordinate, nought where there is none such.
@@ -98,31 +105,48 @@ impl<'a> Knots<'a> {
     }
 }
 
-// The values of a line, where it has a field.
-fn row_of(
-    layout: Layout<'_>,
-    columns: Columns,
-    line: Line<'_>,
-    faults: &mut Faults,
-) -> Option<[f64; 3]> {
-    let mut values = [0.0f64; 3];
-    let mut count: usize = 0;
-    for (column, field) in line.fields().enumerate() {
-        if let Some(axis) = columns.axis_of(column) {
-            match value_of(layout.source.bytes(field)) {
-                Ok(value) => values[axis] = value,
-                Err(wrong) => faults.note(wrong, field),
-            }
+// The line at a place: the values of its coordinates, how many fields it has, and where the next line starts.
+#[derive(Clone, Copy)]
+struct Row {
+    values: [f64; 3],
+    count: usize,
+    next: usize,
+}
+
+impl Row {
+    // By what stands next, and not by the line's fields, since the place behind the last of them is wanted too.
+    fn at(source: Source<'_>, columns: Columns, start: usize, faults: &mut Faults) -> Row {
+        let text = source.text;
+        let mut values = [0.0f64; 3];
+        let mut at = start;
+        for count in 0..text.len() {
+            let next = match field_at(text, at, source.separator) {
+                Field::Word(start, end, next) => {
+                    if let Some(axis) = columns.axis_of(count) {
+                        let field = Span { start, end };
+                        match value_of(source.bytes(field)) {
+                            Ok(value) => values[axis] = value,
+                            Err(wrong) => faults.note(wrong, field),
+                        }
+                    }
+                    at = next;
+                    continue;
+                }
+                Field::LineEnd(next) | Field::Comment(next) => next,
+                Field::End => text.len(),
+            };
+            return Row {
+                values,
+                count,
+                next,
+            };
         }
-        count = column + 1;
+        Row {
+            values,
+            count: text.len(),
+            next: text.len(),
+        }
     }
-    if count == 0 {
-        return None;
-    }
-    if let Err(wrong) = check_count(layout, columns, count) {
-        faults.note_at(wrong, line.start);
-    }
-    Some(values)
 }
 
 // What is wrong with a line of so many fields: not as many as in the first line, or too few for a column.
@@ -140,21 +164,22 @@ fn check_count(layout: Layout<'_>, columns: Columns, count: usize) -> Result<(),
     }
 }
 
-// Keeps a knot, or that there is no room for it.
+// Keeps the knot of a line that starts at a place, or that there is no room for it.
 fn keep(
-    line: Line<'_>,
+    source: Source<'_>,
+    at: usize,
     row: [f64; 3],
     values: &mut Values,
     starts: &mut Starts,
     faults: &mut Faults,
 ) {
     let knot = starts.len();
-    if !starts.keep(line) {
-        return faults.note(Wrong::Many, line.span());
+    if !starts.keep_at(at) {
+        return faults.note(Wrong::Many, source.line(at).span());
     }
-    for (axis, value) in values.chunks_exact_mut(MOST).zip(row) {
-        if let Some(place) = axis.get_mut(knot) {
-            *place = value;
+    for (axis, value) in row.iter().enumerate() {
+        if let Some(place) = values.get_mut(axis * MOST + knot) {
+            *place = *value;
         }
     }
 }
