@@ -62,10 +62,10 @@ fit = Ok tt
 
 -- the answer of axes, by that of the lengths of the first and of the indices, and by whether the others differ
 module _ {A : Type 0} (points_of : A → List Float) (most order n m : ℕ) (axes others : List A) (first : A) (is : axes ≡ first ∷ others) (n_is : n ≡ length (points_of first)) where
-  decided : answer_by {A = Unit {0}} (shape_tests most order (count (map points_of axes)) (lengths (map points_of axes) m)) tt
+  axes_decided : answer_by {A = Unit {0}} (shape_tests most order (count (map points_of axes)) (lengths (map points_of axes) m)) tt
       ≡ cond (ltb most order) (Err Order) (cond (eqb n 0) (Err NoPoints) (cond (any (λ axis. differs n (points_of axis)) others || not (eqb m n)) (Err Lengths) (Ok tt)))
   unfolding shape_tests
-  decided = rw (is, sym n_is, sym (others_off points_of n m others _ refl)) refl
+  axes_decided = rw (is, sym n_is, sym (others_off points_of n m others _ refl)) refl
 
   lengths_decided : answer_by {A = Unit {0}} (shape_tests most order n (n ∷ n ∷ m ∷ [])) tt
       ≡ cond (ltb most order) (Err Order) (cond (eqb n 0) (Err NoPoints) (cond (not (eqb m n)) (Err Lengths) (Ok tt)))
@@ -74,7 +74,7 @@ module _ {A : Type 0} (points_of : A → List Float) (most order n m : ℕ) (axe
 
   pub refused_by_lengths : (r : Refusal) → answer_by {A = Unit {0}} (shape_tests most order n (n ∷ n ∷ m ∷ [])) tt ≡ Err r
       → answer_by {A = Unit {0}} (shape_tests most order (count (map points_of axes)) (lengths (map points_of axes) m)) tt ≡ Err r
-  refused_by_lengths r e = decided ∙ go (ltb most order) (eqb n 0) (not (eqb m n)) (any (λ axis. differs n (points_of axis)) others) (sym lengths_decided ∙ e)
+  refused_by_lengths r e = axes_decided ∙ go (ltb most order) (eqb n 0) (not (eqb m n)) (any (λ axis. differs n (points_of axis)) others) (sym lengths_decided ∙ e)
     where
       go : (a b c off : Bool) → cond a (Err Order) (cond b (Err NoPoints) (cond c (Err Lengths) fit)) ≡ Err r
           → cond a (Err Order) (cond b (Err NoPoints) (cond (off || c) (Err Lengths) fit)) ≡ Err r
@@ -86,7 +86,7 @@ module _ {A : Type 0} (points_of : A → List Float) (most order n m : ℕ) (axe
   pub passed_by_lengths : answer_by {A = Unit {0}} (shape_tests most order n (n ∷ n ∷ m ∷ [])) tt ≡ Ok tt
       → answer_by {A = Unit {0}} (shape_tests most order (count (map points_of axes)) (lengths (map points_of axes) m)) tt
       ≡ cond (any (λ axis. differs n (points_of axis)) others) (Err Lengths) (Ok tt)
-  passed_by_lengths e = decided ∙ go (ltb most order) (eqb n 0) (not (eqb m n)) (any (λ axis. differs n (points_of axis)) others) (sym lengths_decided ∙ e)
+  passed_by_lengths e = axes_decided ∙ go (ltb most order) (eqb n 0) (not (eqb m n)) (any (λ axis. differs n (points_of axis)) others) (sym lengths_decided ∙ e)
     where
       go : (a b c off : Bool) → cond a (Err Order) (cond b (Err NoPoints) (cond c (Err Lengths) fit)) ≡ Ok tt
           → cond a (Err Order) (cond b (Err NoPoints) (cond (off || c) (Err Lengths) fit)) ≡ cond off (Err Lengths) (Ok tt)
@@ -94,6 +94,13 @@ module _ {A : Type 0} (points_of : A → List Float) (most order n m : ℕ) (axe
       go false true c off e = cc
       go false false true off e = cc
       go false false false off e = rw (or-false off) refl
+
+-- the answer of axes whose points are not too few
+pub decided : {A : Type 0} (points_of : A → List Float) (most order n m : ℕ) (axes others : List A) (first : A) (off : Bool) → axes ≡ first ∷ others → n ≡ length (points_of first)
+    → ltb most order ≡ false → eqb n 0 ≡ false → off ≡ any (λ axis. differs n (points_of axis)) others
+    → answer_by {A = Unit {0}} (shape_tests most order (count (map points_of axes)) (lengths (map points_of axes) m)) tt ≡ cond (off || not (eqb m n)) (Err Lengths) (Ok tt)
+decided points_of most order n m axes others first off is n_is few some off_is =
+    axes_decided points_of most order n m axes others first is n_is ∙ rw (few, some, off_is) refl
 
 first_length : (axes : List (List Float)) → 0 < length axes → length (get_or axes 0 []) ≡ count axes
 first_length [] h = absurd (omega arith)
